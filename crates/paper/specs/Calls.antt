@@ -1,0 +1,170 @@
+-- The five calls of document 01, each one definition that gives for every input what it answers and what state, memory and
+-- glass hold afterwards. "Numbers given back" says which refusals each tests, in order. Assumes nothing.
+use Prim.Native.Nat.{ℕ, _+_}
+use mathlib.Core.Bool.{Bool, true, false, cond, _&&_, not}
+use mathlib.Core.List.{List, [], _∷_}
+use lib.ListN.{length, replicate}
+use lib.Dec.{eqb}
+use Rattle.paper.specs.declared.Geometry.{Geometry}
+use Rattle.paper.specs.declared.Half.the-variants.{Nothing}
+use Rattle.paper.specs.declared.Hold.{Hold}
+use Rattle.paper.specs.declared.Hold.the-variants.{Free, Held}
+use Rattle.paper.specs.declared.Outcome.{Outcome}
+use Rattle.paper.specs.declared.Outcome.the-variants.{Unfinished}
+use Rattle.paper.specs.declared.Refusal.{Refusal}
+use Rattle.paper.specs.declared.Refusal.the-variants.{Accepted, MemoryLength, FontLength, GlassLength, NoSuchWindow, UndefinedWindow, HeldAlready, NotHeld, BrokenState}
+use Rattle.paper.specs.declared.State.{State}
+use Rattle.paper.specs.declared.Answer.{Answer}
+use Rattle.paper.specs.declared.Fed.{Fed}
+use Rattle.paper.specs.declared.Refreshed.{Refreshed}
+use Rattle.paper.specs.Panel.{memoryLength, glassLength, fontLength}
+use Rattle.paper.specs.Strokes.{noSpan, applyAll, markAll, refreshed, shownAll}
+use Rattle.paper.specs.Numbers.{carriedBy, answeredBy}
+use Rattle.paper.specs.Reading.{between}
+use Rattle.paper.specs.Settings.{initialState, withSettings, withSelected, withHold, withHalf, withSpans, windowAt, isDefined}
+use Rattle.paper.specs.Bounds.{accepted}
+use Rattle.paper.specs.Cells.{eraseStroke}
+use Rattle.paper.specs.Carry.{Meaning, isHeld, byteMeans}
+
+-- 1, 2, 3: "memory is not 1,024 bytes", "font is not 1,120 bytes", "glass is not 224 bytes"
+abbrev pub isNot : ℕ → List ℕ → Bool
+isNot n l = not (eqb (length l) n)
+
+-- "nothing lent and nothing in the state changes" unless a call is accepted
+unfoldable pub isAccepted : Refusal → Bool
+isAccepted Accepted = true
+isAccepted MemoryLength = false
+isAccepted FontLength = false
+isAccepted GlassLength = false
+isAccepted NoSuchWindow = false
+isAccepted UndefinedWindow = false
+isAccepted HeldAlready = false
+isAccepted NotHeld = false
+isAccepted BrokenState = false
+
+-- ---- start
+
+-- "Start: 1."
+unfoldable pub startRefusal : Geometry → List ℕ → Refusal
+startRefusal g m = cond (isNot (memoryLength g) m) MemoryLength Accepted
+
+pub record Starting : Type 0 where
+  pub answer : Answer
+  pub mem : List ℕ
+
+abbrev pub answer : Refusal → State → Answer
+answer r s = record { refusal = r; state = s }
+
+-- "Start does the same [as initialise] and marks all as written."
+abbrev pub started : Geometry → State
+started g = withSpans (initialState g) (markAll (initialState g .spans) (eraseStroke g ∷ []))
+
+-- "Start takes no state; refused, it gives the initial state with both spans empty."
+unfoldable pub startCall : Geometry → List ℕ → Starting
+startCall g m =
+    cond (isAccepted (startRefusal g m))
+    (record { answer = answer Accepted (started g); mem = applyAll g m (eraseStroke g ∷ []) })
+    (record { answer = answer (startRefusal g m) (initialState g); mem = m })
+
+-- ---- feed
+
+-- "Feed: 1, 2, 8."
+unfoldable pub feedRefusal : Geometry → List ℕ → State → List ℕ → Refusal
+feedRefusal g font s m =
+    cond (isNot (memoryLength g) m) MemoryLength
+    (cond (isNot fontLength font) FontLength (cond (not (accepted g s)) BrokenState Accepted))
+
+pub record Feeding : Type 0 where
+  pub answer : Fed
+  pub mem : List ℕ
+
+abbrev pub feeding : Refusal → State → ℕ → ℕ → Outcome → List ℕ → Feeding
+feeding r s c a o m =
+    record { answer = record { refusal = r; state = s; carried = c; answered = a; outcome = o }; mem = m }
+
+-- one byte taken: its strokes move the memory and grow the spans, its outcome is counted
+abbrev pub counted : Geometry → Feeding → Meaning → Feeding
+counted g f t =
+    feeding (f .answer .refusal) (withSpans (t .state) (markAll (t .state .spans) (t .strokes)))
+    (f .answer .carried + carriedBy (t .outcome))
+    (f .answer .answered + answeredBy (t .outcome))
+    (t .outcome)
+    (applyAll g (f .mem) (t .strokes))
+
+unfoldable pub next : Geometry → List ℕ → Feeding → ℕ → Feeding
+next g font f b = counted g f (byteMeans g font (f .answer .state) b)
+
+-- "A feed takes the whole piece"
+abbrev pub run : Geometry → List ℕ → Feeding → List ℕ → Feeding
+run g font f [] = f
+run g font f (b ∷ bs) = run g font (next g font f b) bs
+
+-- "9 .. when the piece is empty or when the call is refused"; "every count given back is 0"
+abbrev pub fedNothing : Refusal → State → List ℕ → Feeding
+fedNothing r s m = feeding r s 0 0 Unfinished m
+
+unfoldable pub feedCall : Geometry → List ℕ → State → List ℕ → List ℕ → Feeding
+feedCall g font s m piece =
+    cond (isAccepted (feedRefusal g font s m)) (run g font (fedNothing Accepted s m) piece)
+    (fedNothing (feedRefusal g font s m) s m)
+
+-- ---- hold and release
+
+-- "Hold: 8, 6, 4, 5."
+unfoldable pub holdRefusal : Geometry → State → ℕ → Refusal
+holdRefusal g s k =
+    cond (not (accepted g s)) BrokenState
+    (cond (isHeld (s .hold)) HeldAlready
+    (cond (not (between 1 4 k)) NoSuchWindow
+    (cond (not (isDefined (windowAt (s .windows) k))) UndefinedWindow Accepted)))
+
+-- "Hold k drops a half-read command, saves all settings and the selected window, and selects k."
+unfoldable pub heldBy : State → ℕ → State
+heldBy s k = withHold (withSelected (withHalf s Nothing) k) (Held k (s .selected) (s .settings))
+
+unfoldable pub holdCall : Geometry → State → ℕ → Answer
+holdCall g s k =
+    cond (isAccepted (holdRefusal g s k)) (answer Accepted (heldBy s k)) (answer (holdRefusal g s k) s)
+
+-- "Release: 8, 7."
+unfoldable pub releaseRefusal : Geometry → State → Refusal
+releaseRefusal g s = cond (not (accepted g s)) BrokenState (cond (not (isHeld (s .hold))) NotHeld Accepted)
+
+-- "Release drops a half-read command and puts the saved settings and selection back; window k keeps its cursor and mode."
+abbrev pub putBack : State → Hold → State
+putBack s Free = s
+putBack s (Held k back v) = withHold (withSelected (withSettings (withHalf s Nothing) v) back) Free
+
+unfoldable pub released : State → State
+released s = putBack s (s .hold)
+
+unfoldable pub releaseCall : Geometry → State → Answer
+releaseCall g s =
+    cond (isAccepted (releaseRefusal g s)) (answer Accepted (released s)) (answer (releaseRefusal g s) s)
+
+-- ---- refresh
+
+-- "Refresh: 1, 3, 8."
+unfoldable pub refreshRefusal : Geometry → State → List ℕ → List ℕ → Refusal
+refreshRefusal g s m glass =
+    cond (isNot (memoryLength g) m) MemoryLength
+    (cond (isNot (glassLength g) glass) GlassLength (cond (not (accepted g s)) BrokenState Accepted))
+
+pub record Refreshing : Type 0 where
+  pub answer : Refreshed
+  pub glass : List ℕ
+
+abbrev pub refreshing : Refusal → State → ℕ → List ℕ → Refreshing
+refreshing r s n glass = record { answer = record { refusal = r; state = s; moved = n }; glass = glass }
+
+-- "empties both spans"
+unfoldable pub emptied : Geometry → State → State
+emptied g s = withSpans s (replicate (g .rows) noSpan)
+
+-- "Refresh copies each span's visible columns, changes no other glass byte, empties both spans, and reports the number of bytes
+-- moved, which is the sum of the visible span lengths"
+unfoldable pub refreshCall : Geometry → State → List ℕ → List ℕ → Refreshing
+refreshCall g s m glass =
+    cond (isAccepted (refreshRefusal g s m glass))
+    (refreshing Accepted (emptied g s) (shownAll g (s .spans)) (refreshed g m (s .spans) glass))
+    (refreshing (refreshRefusal g s m glass) s 0 glass)

@@ -1,0 +1,10 @@
+pub mod Panel
+pub mod Strokes
+pub mod Numbers
+pub mod Reading
+pub mod Settings
+pub mod Bounds
+pub mod Cells
+pub mod Moves
+pub mod Carry
+pub mod Calls

@@ -1,0 +1,57 @@
+-- Document 01, "Numbers given back": the number of each refusal and of each outcome, and what an outcome counts as.
+-- When each is given stands with the rule that gives it: refusals in Calls, outcomes in Reading and Carry. Assumes nothing.
+use Prim.Native.Nat.{ℕ}
+use mathlib.Core.Bool.{Bool, true, false}
+use Rattle.paper.specs.declared.Outcome.{Outcome}
+use Rattle.paper.specs.declared.Outcome.the-variants.{Unfinished, Carried, OutOfDomain, Cancelled, Unknown, NotCarried, WindowHeld, TooLarge, NotDefined}
+use Rattle.paper.specs.declared.Refusal.{Refusal}
+use Rattle.paper.specs.declared.Refusal.the-variants.{Accepted, MemoryLength, FontLength, GlassLength, NoSuchWindow, UndefinedWindow, HeldAlready, NotHeld, BrokenState}
+
+-- "Refused calls": 0 stands for a call that was not refused
+unfoldable pub refusalNumber : Refusal → ℕ
+refusalNumber Accepted = 0
+refusalNumber MemoryLength = 1
+refusalNumber FontLength = 2
+refusalNumber GlassLength = 3
+refusalNumber NoSuchWindow = 4
+refusalNumber UndefinedWindow = 5
+refusalNumber HeldAlready = 6
+refusalNumber NotHeld = 7
+refusalNumber BrokenState = 8
+
+-- "Outcomes in the stream": "9 when that byte finished nothing, 10 when it finished a command that was carried out; else 11 to
+-- 17"
+unfoldable pub outcomeNumber : Outcome → ℕ
+outcomeNumber Unfinished = 9
+outcomeNumber Carried = 10
+outcomeNumber OutOfDomain = 11
+outcomeNumber Cancelled = 12
+outcomeNumber Unknown = 13
+outcomeNumber NotCarried = 14
+outcomeNumber WindowHeld = 15
+outcomeNumber TooLarge = 16
+outcomeNumber NotDefined = 17
+
+-- "two counts: commands carried out, and commands answered 11 to 17": what an outcome adds to the first
+unfoldable pub carriedBy : Outcome → ℕ
+carriedBy Unfinished = 0
+carriedBy Carried = 1
+carriedBy OutOfDomain = 0
+carriedBy Cancelled = 0
+carriedBy Unknown = 0
+carriedBy NotCarried = 0
+carriedBy WindowHeld = 0
+carriedBy TooLarge = 0
+carriedBy NotDefined = 0
+
+-- and to the second
+unfoldable pub answeredBy : Outcome → ℕ
+answeredBy Unfinished = 0
+answeredBy Carried = 0
+answeredBy OutOfDomain = 1
+answeredBy Cancelled = 1
+answeredBy Unknown = 1
+answeredBy NotCarried = 1
+answeredBy WindowHeld = 1
+answeredBy TooLarge = 1
+answeredBy NotDefined = 1

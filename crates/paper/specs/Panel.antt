@@ -1,0 +1,62 @@
+-- Document 01, "The panel and its memory": sizes, addresses, the dots of a byte, the font's glyphs.
+-- Every rule is over a geometry; `panel` is the 112 by 16 module's. Assumes nothing.
+use Prim.Native.Nat.{ℕ, suc, _+_, _*_, _-_, _/_, _%_, _^_}
+use mathlib.Core.Bool.{Bool, true, false, cond}
+use mathlib.Core.List.{List, [], _∷_}
+use lib.ListN.{getD}
+use lib.Dec.{ltb, eqb}
+use Rattle.paper.specs.declared.Geometry.{Geometry}
+
+-- "Display memory is 512 by 16 dots. Columns 0 to 111 are visible."
+unfoldable pub panel : Geometry
+panel = record { columns = 512; rows = 2; visible = 112 }
+
+-- "1,024 lent bytes"
+abbrev pub memoryLength : Geometry → ℕ
+memoryLength g = g .rows * g .columns
+
+-- "The glass copy is 224 lent bytes, addressed in the same way."
+abbrev pub glassLength : Geometry → ℕ
+glassLength g = g .rows * g .visible
+
+-- "The font is 1,120 lent bytes: 5 columns for each code 20h to FFh"
+abbrev pub fontLength : ℕ
+fontLength = 1120
+
+-- "Column x, row y: the byte at address 2x + y"
+abbrev pub address : Geometry → ℕ → ℕ → ℕ
+address g x y = g .rows * x + y
+
+abbrev pub columnOf : Geometry → ℕ → ℕ
+columnOf g a = a / g .rows
+
+abbrev pub rowOf : Geometry → ℕ → ℕ
+rowOf g a = a % g .rows
+
+-- "holds 8 dots, bit 7 on top": whether dot i of a byte, counted from the top, is lit
+abbrev pub dot : ℕ → ℕ → Bool
+dot b i = eqb (b / 2 ^ (7 - i) % 2) 1
+
+-- the byte whose dots, from the top, are given
+abbrev pub lit : ℕ → Bool → ℕ
+lit worth true = worth
+lit worth false = 0
+
+unfoldable pub byteOf : (ℕ → Bool) → ℕ
+byteOf d =
+    lit 128 (d 0) + lit 64 (d 1) + lit 32 (d 2) + lit 16 (d 3) + lit 8 (d 4) + lit 4 (d 5) + lit 2 (d 6) + lit 1 (d 7)
+
+-- "5 columns for each code 20h to FFh, leftmost first, upper 7 bits used": dot i of column k of a code's glyph
+abbrev pub glyphByte : List ℕ → ℕ → ℕ → ℕ
+glyphByte font code k = getD font (5 * (code - 0x20) + k) 0
+
+unfoldable pub glyphDot : List ℕ → ℕ → ℕ → ℕ → Bool
+glyphDot font code k i = cond (ltb i 7) (dot (glyphByte font code k) i) false
+
+-- each byte of a memory or a glass changed by its address, counted from i
+abbrev pub eachFrom : (ℕ → ℕ → ℕ) → ℕ → List ℕ → List ℕ
+eachFrom f i [] = []
+eachFrom f i (b ∷ bs) = f i b ∷ eachFrom f (suc i) bs
+
+abbrev pub each : (ℕ → ℕ → ℕ) → List ℕ → List ℕ
+each f m = eachFrom f 0 m

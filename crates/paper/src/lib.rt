@@ -1,0 +1,312 @@
+// The paper: the types of document 01 and, in specs/, every rule of it as a definition.
+// It holds no other code and uses no other crate; every other crate may use it.
+
+// A panel's memory: its columns, its rows of 8 dots, and how many of its columns are visible.
+pub struct Geometry {
+    pub columns: usize,
+    pub rows: usize,
+    pub visible: usize,
+}
+
+// How a cell is drawn: reverse 0 or 1, mixing 0 to 3, and the enlargement, 1 to 4 across and 1 to 2 down.
+pub struct Style {
+    pub reverse: u8,
+    pub mixing: u8,
+    pub across: u8,
+    pub down: u8,
+}
+
+// The common settings, each named after its use; `charset`, `codes`, `shown`, `brightness` and `speed` are kept only.
+pub struct Settings {
+    pub charset: u8,
+    pub codes: u8,
+    pub shown: u8,
+    pub brightness: u8,
+    pub speed: u8,
+    pub width: u8,
+    pub write: u8,
+    pub style: Style,
+}
+
+// A window's cursor, counted from the window's top left, and its mode, 1 to 3 for MD1 to MD3.
+pub struct Cursor {
+    pub x: u16,
+    pub y: u16,
+    pub mode: u8,
+}
+
+// A user window. One that is not defined is all zeros; no defined one is 0 columns wide.
+pub struct Window {
+    pub left: u16,
+    pub top: u16,
+    pub width: u16,
+    pub height: u16,
+    pub cursor: Cursor,
+}
+
+// The columns of one row written since the last refresh: from `first` to the one before `end`. Nothing is 0 and 0.
+pub struct Span {
+    pub first: u16,
+    pub end: u16,
+}
+
+// The range in which a command works, with the cursor counted from its top left, and the mode.
+pub struct View {
+    pub left: usize,
+    pub top: usize,
+    pub width: usize,
+    pub height: usize,
+    pub x: usize,
+    pub y: usize,
+    pub mode: u8,
+}
+
+// A setting that one byte gives, named by the command that sets it.
+pub enum Key {
+    // 1Bh 52h
+    Charset,
+    // 1Bh 74h
+    Codes,
+    // 1Fh 43h
+    Shown,
+    // 1Fh 58h
+    Brightness,
+    // 1Fh 72h
+    Reverse,
+    // 1Fh 73h
+    Speed,
+    // 1Fh 77h
+    Mixing,
+    // 1Fh 28h 67h 03h
+    Width,
+    // 1Fh 28h 77h 10h
+    Write,
+}
+
+// A 16-bit parameter that is awaited, with the parameters before it.
+pub enum Word {
+    CursorX,
+    CursorY {
+        x: u16,
+    },
+    WindowLeft {
+        a: u8,
+    },
+    WindowTop {
+        a: u8,
+        left: u16,
+    },
+    WindowWidth {
+        a: u8,
+        left: u16,
+        top: u16,
+    },
+    WindowHeight {
+        a: u8,
+        left: u16,
+        top: u16,
+        width: u16,
+    },
+    ImageWidth,
+    ImageHeight {
+        width: u16,
+    },
+}
+
+// The half-read command: what is awaited, with the parameters gathered so far.
+pub enum Half {
+    // no command is half read
+    Nothing,
+    // after 1Bh
+    Escape,
+    // after 1Fh
+    Unit,
+    // after 1Fh 28h
+    Group,
+    // after 1Fh 28h 61h
+    Actions,
+    // after 1Fh 28h 66h
+    Pictures,
+    // after 1Fh 28h 67h
+    Characters,
+    // after 1Fh 28h 77h
+    Windows,
+    // the one parameter of a setting
+    Value(Key),
+    // the rest of a command that is not carried and not checked, `left` bytes of it
+    Rest {
+        left: u8,
+    },
+    // the define's a, its c1, its c2; then the width of `code`, or one of its `left` bytes
+    DefineA,
+    DefineFrom,
+    DefineTo {
+        from: u8,
+    },
+    GlyphWidth {
+        code: u8,
+        last: u8,
+    },
+    GlyphByte {
+        code: u8,
+        last: u8,
+        left: u8,
+    },
+    // a 16-bit parameter, low byte first
+    Low(Word),
+    High {
+        word: Word,
+        low: u8,
+    },
+    // the image's g, then its bytes: the next one's column and row in the image
+    ImageKind {
+        width: u16,
+        height: u16,
+    },
+    ImageData {
+        width: u16,
+        height: u16,
+        column: u16,
+        row: u16,
+    },
+    // the enlargement's x and y
+    EnlargeX,
+    EnlargeY {
+        x: u8,
+    },
+    // a window's number, to be selected
+    SelectA,
+    // a window's number, to be defined or cancelled, and which of the two
+    WindowA,
+    WindowB {
+        a: u8,
+    },
+}
+
+// A command read whole.
+pub enum Command {
+    Character(u8),
+    Back,
+    Tab,
+    LineFeed,
+    Home,
+    Clear,
+    Return,
+    Select(u8),
+    Initialise,
+    Mode(u8),
+    Set {
+        key: Key,
+        value: u8,
+    },
+    Enlarge {
+        x: u8,
+        y: u8,
+    },
+    CursorSet {
+        x: u16,
+        y: u16,
+    },
+    Define {
+        a: u8,
+        left: u16,
+        top: u16,
+        width: u16,
+        height: u16,
+    },
+    Cancel(u8),
+    Uncarried,
+}
+
+// What a byte gives to a half-read command.
+pub enum Reading {
+    // the command is not whole yet
+    More(Half),
+    // the command is whole
+    Whole(Command),
+    // a byte of an image, its place there, and what is half read after it; and an image's last byte
+    Picture {
+        column: u16,
+        row: u16,
+        byte: u8,
+        next: Half,
+    },
+    PictureEnd {
+        column: u16,
+        row: u16,
+        byte: u8,
+    },
+    // the command is cancelled at this byte
+    Cancels,
+    // this byte makes the code unknown
+    UnknownCode,
+}
+
+// What a byte of the stream came to: the numbers 9 to 17.
+pub enum Outcome {
+    Unfinished,
+    Carried,
+    OutOfDomain,
+    Cancelled,
+    Unknown,
+    NotCarried,
+    WindowHeld,
+    TooLarge,
+    NotDefined,
+}
+
+// Why a call was refused: the numbers 1 to 8, or that it was not.
+pub enum Refusal {
+    Accepted,
+    MemoryLength,
+    FontLength,
+    GlassLength,
+    NoSuchWindow,
+    UndefinedWindow,
+    HeldAlready,
+    NotHeld,
+    BrokenState,
+}
+
+// Whether a window is held, and what its release puts back.
+pub enum Hold {
+    Free,
+    Held {
+        window: u8,
+        selected: u8,
+        settings: Settings,
+    },
+}
+
+// All that a panel knows besides its memory. `selected` is 0 for the base window, whose cursor is `base`.
+pub struct State {
+    pub settings: Settings,
+    pub windows: [Window; 4],
+    pub base: Cursor,
+    pub selected: u8,
+    pub hold: Hold,
+    pub half: Half,
+    pub spans: [Span; 2],
+}
+
+// What start, hold and release answer.
+pub struct Answer {
+    pub refusal: Refusal,
+    pub state: State,
+}
+
+// What a feed answers: commands carried out, commands answered 11 to 17, and what the last byte came to.
+pub struct Fed {
+    pub refusal: Refusal,
+    pub state: State,
+    pub carried: usize,
+    pub answered: usize,
+    pub outcome: Outcome,
+}
+
+// What a refresh answers: the bytes moved.
+pub struct Refreshed {
+    pub refusal: Refusal,
+    pub state: State,
+    pub moved: usize,
+}
