@@ -1,0 +1,164 @@
+-- The marked cases hold, for every font: `marked`. Each is computed from the paper's definitions. Assumes nothing.
+use mathlib.Core.Path.{_≡_, refl, sym, ap, _∙_, subst}
+use mathlib.Core.Logic.{⊎-elim}
+use mathlib.Core.Bool.{Bool, true, false, cond, _&&_}
+use mathlib.Core.List.{List, [], _∷_, _++_}
+use Prim.Native.Nat.{ℕ, zero, suc, _+_, _*_, _-_, _/_, _%_, _<_}
+use lib.ListN.{length, getD, replicate}
+use native.Mathlib.Nat.{le-of-suc-le-suc, not-suc-le-zero, eq-or-lt-of-le}
+use lib.Dec.{T, leb, ltb, eqb, eqb→eq}
+use Rattle.paper.specs.declared.State.{State}
+use Rattle.paper.specs.declared.Answer.{Answer}
+use Rattle.paper.specs.declared.Refusal.the-variants.{Accepted}
+use Rattle.paper.specs.Panel.{panel, byteOf, glyphDot, dot}
+use Rattle.paper.specs.Strokes.{rectMap, grown, grownBy, refreshed, shown}
+use Rattle.paper.specs.Numbers.{outcomeNumber, refusalNumber, carriedBy, answeredBy}
+use Rattle.paper.specs.Reading.{readMove, readFirst, readEscape, readUnit, readGroup, readPictures, readWindows, readWindowB, readWord, readOf}
+use Rattle.paper.specs.Settings.{initialStyle, initialSettings, topLeft, initialState, inDomain, inEnlargement, selectable, fits, cursorOf, atCursor, inMode, insideWindow, baseView, viewOf, cursorIn}
+use Rattle.paper.specs.Bounds.{settingsOk, cursorOk, isBlank, windowOk, windowsOk, holdOk, spanOk, wordOk, halfOk, accepted}
+use Rattle.paper.specs.Cells.{cellDot, penned, cellWidth, tooLarge}
+use Rattle.paper.specs.Moves.{nextLine, nextLineUp, pushLeft, htOf, drawTab, blankTab, characterOf, lineDown, lineDownUp, lineFeedOf, clearOf}
+use Rattle.paper.specs.Carry.{notCarried, isHeld, ownersOnly, outOfDomain, notDefined, cellExceeds, carriedOut, commandOf, takeOf, byteMeans}
+use Rattle.paper.specs.Calls.{isAccepted, startRefusal, startCall, feedRefusal, Feeding, next, run, fedNothing, feedCall, holdRefusal, heldBy, holdCall, refreshRefusal, emptied, refreshCall}
+use Rattle.marked.specs.Marked.{Font, begun, fresh, freshState, fed, lit, fedLit, answersTo, cursorAfter, nextRefresh, rows, _of_, column, glyph, glyphLow, cursorSet, md2, md3, windowOne, image, held, fedHeld, Marked}
+
+-- a feed that is not refused runs over its piece
+runs : (font : List ℕ) (s : State) (m piece : List ℕ) → length font ≡ 1120 → eqb (length m) 1024 ≡ true → accepted panel s ≡ true
+    → feedCall panel font s m piece ≡ run panel font (fedNothing Accepted s m) piece
+unfolding feedCall feedRefusal isAccepted panel
+runs font s m piece f l a = rw (f, l, a)
+
+-- ---- the dots of the glyph of 41h as bytes
+
+-- a test of every number below n
+abbrev every : (ℕ → Bool) → ℕ → Bool
+every f zero = true
+every f (suc n) = f n && every f n
+
+and-left : (p q : Bool) → T (p && q) → T p
+and-left true q h = tt
+and-left false q h = h
+
+and-right : (p q : Bool) → T (p && q) → T q
+and-right true q h = h
+and-right false q h = absurd h
+
+-- a rule that antt computes for each number below n holds of each
+every-holds : (f : ℕ → Bool) (n : ℕ) → T (every f n) → (k : ℕ) → k < n → T (f k)
+every-holds f zero t k h = absurd (not-suc-le-zero h)
+every-holds f (suc n) t k h =
+    ⊎-elim (λ e. subst (λ (i : ℕ). T (f i)) (sym e) (and-left (f n) (every f n) t))
+    (λ l. every-holds f n (and-right (f n) (every f n) t) k l)
+    (eq-or-lt-of-le (le-of-suc-le-suc h))
+
+-- a glyph's column with its blank dot below, and above
+dotsBelow : ℕ → ℕ
+dotsBelow v = byteOf (λ i. cond (ltb i 7) (dot v i) false)
+
+dotsAbove : ℕ → ℕ
+dotsAbove v = byteOf (λ i. leb 1 i && cond (ltb (i - 1) 7) (dot v (i - 1)) false)
+
+below-is : (v : ℕ) → v < 256 → dotsBelow v ≡ v / 2 * 2
+unfolding dotsBelow byteOf
+below-is v h = eqb→eq _ _ (every-holds (λ n. eqb (dotsBelow n) (n / 2 * 2)) 256 tt v h)
+
+above-is : (v : ℕ) → v < 256 → dotsAbove v ≡ v / 2
+unfolding dotsAbove byteOf
+above-is v h = eqb→eq _ _ (every-holds (λ n. eqb (dotsAbove n) (n / 2)) 256 tt v h)
+
+-- the glyph's five columns, each taken through d
+abbrev columns : (ℕ → ℕ) → List ℕ → List ℕ
+columns d font = d (column font 0) ∷ d (column font 1) ∷ d (column font 2) ∷ d (column font 3) ∷ d (column font 4) ∷ []
+
+columns-same : (d e : ℕ → ℕ) → ((v : ℕ) → v < 256 → d v ≡ e v) → (font : List ℕ) → Font font → columns d font ≡ columns e font
+columns-same d e same font f =
+    rw (
+      same (column font 0) (f .bytes 165),
+      same (column font 1) (f .bytes 166),
+      same (column font 2) (f .bytes 167),
+      same (column font 3) (f .bytes 168),
+      same (column font 4) (f .bytes 169),
+    )
+
+-- ---- the cases
+
+pub marked : (font : List ℕ) → Font font → Marked font
+unfolding begun fresh startCall startRefusal isAccepted refreshCall refreshRefusal emptied refreshed shown panel byteOf glyphDot rectMap grown grownBy outcomeNumber refusalNumber carriedBy answeredBy readMove readFirst readEscape readUnit readGroup readPictures readWindows readWindowB readWord readOf initialStyle initialSettings topLeft initialState inDomain inEnlargement selectable fits cursorOf atCursor inMode insideWindow baseView viewOf cursorIn settingsOk cursorOk isBlank windowOk windowsOk holdOk spanOk wordOk halfOk accepted cellDot penned cellWidth tooLarge nextLine nextLineUp pushLeft htOf drawTab blankTab characterOf lineDown lineDownUp lineFeedOf clearOf notCarried isHeld ownersOnly outOfDomain notDefined cellExceeds carriedOut commandOf takeOf byteMeans next holdRefusal heldBy holdCall dotsBelow dotsAbove
+marked font f = record {
+  case-1 = on [];
+  case-2 = (
+    mem (onLit (0x41 ∷ [])) ∙ ap (λ (l : List ℕ). rows (0 ∷ l ++ 0 ∷ 505 of 255) (512 of 255)) below,
+    ap cursorAfter (on (0x41 ∷ [])),
+    ap nextRefresh (on (0x41 ∷ [])),
+  );
+  case-3 = ap cursorAfter (on (16 of 0x41));
+  case-4 = (
+    mem (onLit (cursorSet 106 0 0 0 ++ 0x41 ∷ []))
+        ∙ ap (λ (l : List ℕ). rows (106 of 255 ++ 6 of 0 ++ 400 of 255) (0 ∷ l ++ 0 ∷ 505 of 255)) above,
+    ap cursorAfter (on (cursorSet 106 0 0 0 ++ 0x41 ∷ [])),
+  );
+  case-5 = (
+    ap answersTo (on (cursorSet 0x00 0x02 0x00 0x00)),
+    ap cursorAfter (on (cursorSet 0x00 0x02 0x00 0x00)),
+    ap cursorAfter (on (cursorSet 0xFF 0x01 0x01 0x00)),
+  );
+  case-6 = (
+    ap answersTo (on (image 0x00 0x00)),
+    mem (onLit (image 0x00 0x00)),
+    mem (onLit (image 0x00 0x00 ++ 0x0C ∷ [])),
+    ap (λ (t : Feeding). t .answer .carried) (on (image 0x00 0x00 ++ 0x0C ∷ [])),
+    ap (λ (t : Feeding). t .answer .answered) (on (image 0x00 0x00 ++ 0x0C ∷ [])),
+  );
+  case-7 = (ap answersTo (on (image 0x00 0x02)), ap answersTo (on (image 0x01 0x02)));
+  case-8 = ap cursorAfter (on (cursorSet 14 0 1 0 ++ 0x0A ∷ []));
+  case-9 = (
+    mem (on (md2 ++ cursorSet 0 0 1 0 ++ 0x41 ∷ 0x0A ∷ []))
+        ∙ ap (λ (l : List ℕ). rows (0 ∷ l ++ 506 of 0) (512 of 0)) above,
+    ap cursorAfter (on (md2 ++ cursorSet 0 0 1 0 ++ 0x41 ∷ 0x0A ∷ [])),
+  );
+  case-10 = (
+    mem (on (md3 ++ cursorSet 105 0 0 0 ++ 0x41 ∷ []))
+        ∙ ap (λ (l : List ℕ). rows (99 of 0 ++ l ++ 408 of 0) (512 of 0)) below,
+    ap cursorAfter (on (md3 ++ cursorSet 105 0 0 0 ++ 0x41 ∷ [])),
+  );
+  case-11 = (
+    ap (λ (a : Answer). refusalNumber (a .refusal)) (holding windowOne),
+    ap answersTo (onHeld windowOne (0x1B ∷ 0x40 ∷ []) refl),
+    mem (onHeld windowOne (0x1B ∷ 0x40 ∷ []) refl),
+    mem (onHeld windowOne (0x1B ∷ 0x40 ∷ 0x0C ∷ []) refl),
+  );
+  case-12 = (
+    ap (λ (a : Answer). refusalNumber (a .refusal)) (holding (windowOne ++ 0x1F ∷ 0x24 ∷ [])),
+    ap answersTo (onHeld (windowOne ++ 0x1F ∷ 0x24 ∷ []) (0x41 ∷ []) refl),
+    mem (onHeld (windowOne ++ 0x1F ∷ 0x24 ∷ []) (0x41 ∷ []) refl)
+        ∙ ap (λ (l : List ℕ). rows (10 of 255 ++ 0 ∷ l ++ 0 ∷ 495 of 255) (512 of 255)) below,
+    ap cursorAfter (onHeld (windowOne ++ 0x1F ∷ 0x24 ∷ []) (0x41 ∷ []) refl),
+  );
+} where
+  on : (piece : List ℕ) → fed font piece ≡ run panel font (fedNothing Accepted freshState (begun .mem)) piece
+  on piece = runs font freshState (begun .mem) piece (f .size) refl refl
+
+  onLit : (piece : List ℕ) → fedLit font piece ≡ run panel font (fedNothing Accepted freshState lit) piece
+  onLit piece = runs font freshState lit piece (f .size) refl refl
+
+  -- window 1 held after a piece that defines it
+  heldAfter : List ℕ → Answer
+  heldAfter piece = holdCall panel (run panel font (fedNothing Accepted freshState (begun .mem)) piece .answer .state) 1
+
+  holding : (piece : List ℕ) → held font piece ≡ heldAfter piece
+  holding piece = ap (λ (t : Feeding). holdCall panel (t .answer .state) 1) (on piece)
+
+  onHeld : (before piece : List ℕ) → accepted panel (heldAfter before .state) ≡ true
+      → fedHeld font before piece ≡ run panel font (fedNothing Accepted (heldAfter before .state) lit) piece
+  onHeld before piece a =
+      ap (λ (h : Answer). feedCall panel font (h .state) lit piece) (holding before)
+      ∙ runs font (heldAfter before .state) lit piece (f .size) refl a
+
+  mem : {t u : Feeding} → t ≡ u → t .mem ≡ u .mem
+  mem e = ap (λ (t : Feeding). t .mem) e
+
+  below : columns dotsBelow font ≡ glyph font
+  below = columns-same dotsBelow (λ v. v / 2 * 2) below-is font f
+
+  above : columns dotsAbove font ≡ glyphLow font
+  above = columns-same dotsAbove (λ v. v / 2) above-is font f
