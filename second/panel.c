@@ -1182,7 +1182,8 @@ static void define(second_state *state)
  * does nothing and counts as carried out." */
 static void cancel(second_state *state)
 {
-    state->windows[state->half.window - 1].defined = false;
+    state->windows[state->half.window - 1] =
+        (second_window){.defined = false};
     if (state->selected == state->half.window)
         state->selected = 0;
 }
