@@ -875,15 +875,14 @@ static uint8_t placed(uint8_t glyph_column, unsigned memory_row)
 
 /* "w = 0 puts one blank column right; w = 1 one on each side." The cell's
  * columns before enlargement; no glyph: the all-off cell. */
-static unsigned cell_columns(const struct work *k, const uint8_t *glyph,
-                             uint8_t columns[7])
+static void cell_columns(const struct work *k, const uint8_t *glyph,
+                         uint8_t columns[7])
 {
-    unsigned w = k->state->settings.w;
     memset(columns, 0, 7);
     if (glyph != NULL)
         for (unsigned i = 0; i < 5; i++)
-            columns[w + i] = placed(glyph[i], k->top + k->y);
-    return 6 + w;
+            columns[k->state->settings.w + i] =
+                placed(glyph[i], k->top + k->y);
 }
 
 /* The 8 dots of one row of a column enlarged twice: four dots, each twice. */
@@ -899,22 +898,24 @@ static uint8_t doubled(uint8_t dots, unsigned row)
  * dropped." Written is "the cell inside the range". */
 static void draw(struct work *k, const uint8_t *glyph)
 {
-    const second_settings *settings = &k->state->settings;
+    const second_settings settings = k->state->settings;
+    const unsigned L = k->L;
+    const unsigned rows = k->y + L < k->H ? L : k->H - k->y;
+    const unsigned end = k->x + k->c < k->W ? k->x + k->c : k->W;
     uint8_t columns[7];
-    unsigned count = cell_columns(k, glyph, columns);
-    unsigned x = k->x;
-    for (unsigned i = 0; i < count; i++) {
-        for (unsigned e = 0; e < settings->x_enlarged && x < k->W; e++) {
-            for (unsigned r = 0; r < k->L && k->y + r < k->H; r++) {
-                uint8_t *byte = byte_at(k, x, k->y + r);
-                uint8_t dots =
-                    k->L == 1 ? columns[i] : doubled(columns[i], r);
-                *byte = joined(settings, *byte, dots);
+    cell_columns(k, glyph, columns);
+    for (unsigned r = 0; r < rows; r++) {
+        uint8_t *row = byte_at(k, 0, k->y + r);
+        unsigned x = k->x;
+        for (unsigned i = 0; x < end; i++) {
+            uint8_t dots = L == 1 ? columns[i] : doubled(columns[i], r);
+            for (unsigned e = 0; e < settings.x_enlarged && x < end; e++) {
+                row[2 * x] = joined(&settings, row[2 * x], dots);
+                x++;
             }
-            x++;
         }
     }
-    mark_inside(k, k->x, k->y, k->c, k->L);
+    mark_inside(k, k->x, k->y, k->c, L);
 }
 
 /* "5 columns for each code 20h to FFh, leftmost first" */
@@ -931,11 +932,17 @@ static const uint8_t *glyph_of(const struct work *k, uint8_t code)
  * the range for a scroll up" */
 static void scroll_up(struct work *k)
 {
-    for (unsigned x = 0; x < k->W; x++)
-        for (unsigned y = 0; y < k->H; y++)
-            *byte_at(k, x, y) =
-                y + k->L < k->H ? *byte_at(k, x, y + k->L) : 0;
-    mark_inside(k, 0, 0, k->W, k->H);
+    const unsigned W = k->W, H = k->H, L = k->L;
+    for (unsigned y = 0; y < H; y++) {
+        uint8_t *to = byte_at(k, 0, y);
+        if (y + L < H)
+            for (unsigned x = 0; x < W; x++)
+                to[2 * x] = to[2 * x + L];
+        else
+            for (unsigned x = 0; x < W; x++)
+                to[2 * x] = 0;
+    }
+    mark_inside(k, 0, 0, W, H);
 }
 
 /* "rows y to y + L − 1 inside the range move left by x + 2c − W columns,
@@ -943,11 +950,16 @@ static void scroll_up(struct work *k)
  * full width on each row moved left" */
 static void move_left(struct work *k, unsigned by)
 {
-    for (unsigned y = k->y; y < k->y + k->L && y < k->H; y++)
-        for (unsigned x = 0; x < k->W; x++)
-            *byte_at(k, x, y) =
-                x + by < k->W ? *byte_at(k, x + by, y) : 0;
-    mark_inside(k, 0, k->y, k->W, k->L);
+    const unsigned W = k->W;
+    const unsigned kept = by < W ? W - by : 0;
+    for (unsigned y = k->y; y < k->y + k->L && y < k->H; y++) {
+        uint8_t *row = byte_at(k, 0, y);
+        for (unsigned x = 0; x < kept; x++)
+            row[2 * x] = row[2 * (x + by)];
+        for (unsigned x = kept; x < W; x++)
+            row[2 * x] = 0;
+    }
+    mark_inside(k, 0, k->y, W, k->L);
 }
 
 /* "if y + 2L ≤ H" */
@@ -1036,10 +1048,13 @@ static void move_cr(struct work *k)
 /* "CLR zeroes the range, then HOM."; written is "the cleared range" */
 static void move_clr(struct work *k)
 {
-    for (unsigned x = 0; x < k->W; x++)
-        for (unsigned y = 0; y < k->H; y++)
-            *byte_at(k, x, y) = 0;
-    mark_inside(k, 0, 0, k->W, k->H);
+    const unsigned W = k->W, H = k->H;
+    for (unsigned y = 0; y < H; y++) {
+        uint8_t *row = byte_at(k, 0, y);
+        for (unsigned x = 0; x < W; x++)
+            row[2 * x] = 0;
+    }
+    mark_inside(k, 0, 0, W, H);
     move_hom(k);
 }
 
