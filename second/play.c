@@ -66,7 +66,7 @@ static uint8_t *piece;       /* PIECE_MAX bytes */
 static size_t piece_length;
 
 /* "A line that can't be read ends the run" */
-static void fail(const char *what)
+static _Noreturn void fail(const char *what)
 {
     fflush(stdout);
     fprintf(stderr, "line %lu: %s\n", line_number, what);
@@ -500,7 +500,6 @@ static const uint8_t *bytes_named(size_t *length)
         return world.glass;
     }
     fail("neither memory nor glass");
-    return NULL;
 }
 
 static void line_peek(void)
