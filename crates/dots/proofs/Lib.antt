@@ -3,3 +3,4 @@ pub mod Tests
 pub mod Addresses
 pub mod Each
 pub mod Rects
+pub mod Pulls

@@ -61,6 +61,17 @@ module _ (g : Geometry) (left top w h : ℕ) (f : ℕ → ℕ → ℕ → ℕ) (
       (λ i. inside a k i ∙ sym (cond-yes (inRect g left top w h a) _ _ (rect-test g left top w h a i)))
       (λ o. outside a k o ∙ sym (cond-no (inRect g left top w h a) _ _ (λ t. o (rect-facts g left top w h a t)))))
 
+-- a place outside, in a memory of which the rectangle was changed
+pub rect-elsewhere : (g : Geometry) (left top w h : ℕ) (f : ℕ → ℕ → ℕ → ℕ) (m cur : List ℕ) (x y : ℕ)
+    → cur ≡ rectMap g left top w h f m → y < g .rows → address g x y < length m
+    → ((left ≤ x) × (x < left + w) × (top ≤ y) × (y < top + h) → ⊥)
+    → getD cur (address g x y) 0 ≡ getD m (address g x y) 0
+rect-elsewhere g left top w h f m cur x y e hy l o =
+    let column = column-at g x y hy in
+    let row = row-at g x y hy in
+    ap (λ (t : List ℕ). getD t (address g x y) 0) e
+    ∙ rect-out g left top w h f m (address g x y) l (λ i. o (omega arith))
+
 -- bytes that agree inside the rectangle give the same memory
 pub rect-same : (g : Geometry) (left top w h : ℕ) (f k : ℕ → ℕ → ℕ → ℕ) (m : List ℕ)
     → ((j r b : ℕ) → j < w → r < h → f j r b ≡ k j r b) → rectMap g left top w h f m ≡ rectMap g left top w h k m

@@ -23,3 +23,20 @@ pub record Within (g : Geometry) (left top width height : ℕ) : Type 0 where
 -- the rectangle zeroed
 unfoldable pub cleared : Geometry → ℕ → ℕ → ℕ → ℕ → List ℕ → List ℕ
 cleared g left top width height m = rectMap g left top width height (λ j r b. 0) m
+
+-- the rectangle's bytes, each taken from the place so many columns right of it and so many rows below
+unfoldable pub pulled : Geometry → ℕ → ℕ → ℕ → ℕ → ℕ → ℕ → List ℕ → List ℕ
+pulled g left top width height right down m =
+    rectMap g left top width height (λ j r b. getD m (address g (left + (j + right)) (top + (r + down))) 0) m
+
+-- "scroll the range up, zero the lowest": the rectangle so many rows up, zeros entering
+unfoldable pub scrolledUp : Geometry → ℕ → ℕ → ℕ → ℕ → ℕ → List ℕ → List ℕ
+scrolledUp g left top width height lines m =
+    rectMap g left top width height
+    (λ j r b. cond (ltb (r + lines) height) (getD m (address g (left + j) (top + (r + lines))) 0) 0) m
+
+-- "move left by n columns, zeros enter (all zeros if that is W or more)"
+unfoldable pub movedLeft : Geometry → ℕ → ℕ → ℕ → ℕ → ℕ → List ℕ → List ℕ
+movedLeft g left top width height n m =
+    rectMap g left top width height
+    (λ j r b. cond (ltb (j + n) width) (getD m (address g (left + (j + n)) (top + r)) 0) 0) m
