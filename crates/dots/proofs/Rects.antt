@@ -1,5 +1,5 @@
 -- A rectangle of a memory changed: `rectMap` of the paper. Assumes nothing.
-use mathlib.Core.Path.{_≡_, refl, sym, ap, ap₂, subst, _∙_}
+use mathlib.Core.Path.{_≡_, refl, sym, ap, ap₂, subst, subst₂, _∙_}
 use mathlib.Core.Bool.{Bool, true, false, cond}
 use mathlib.Core.List.{List}
 use Prim.Native.Nat.{ℕ, _+_, _*_, _-_, _/_, _%_, _<_, _≤_}
@@ -11,6 +11,7 @@ use lib.Seq.{getD-set-same, getD-set-other}
 use Rattle.paper.specs.declared.Geometry.{Geometry}
 use Rattle.paper.specs.Panel.{address, columnOf, rowOf, each}
 use Rattle.paper.specs.Strokes.{among, inRect, rectMap}
+use Rattle.dots.specs.Rectangles.{stored}
 use Rattle.dots.proofs.Tests.{test-cases, lt-cases, eq-cases, cond-yes, cond-no, and-i, and-0, and-1, among-facts, among-test}
 use Rattle.dots.proofs.Addresses.{column-at, row-at, address-lt, at-place}
 use Rattle.dots.proofs.Each.{length-each, getD-each, each-by, Bytes, each-bytes}
@@ -74,11 +75,17 @@ rect-elsewhere g left top w h f m cur x y e hy l o =
 
 -- bytes that agree inside the rectangle give the same memory
 pub rect-same : (g : Geometry) (left top w h : ℕ) (f k : ℕ → ℕ → ℕ → ℕ) (m : List ℕ)
-    → ((j r b : ℕ) → j < w → r < h → f j r b ≡ k j r b) → rectMap g left top w h f m ≡ rectMap g left top w h k m
+    → ((j r : ℕ) → j < w → r < h → f j r (getD m (address g (left + j) (top + r)) 0) ≡ k j r (getD m (address g (left + j) (top + r)) 0))
+    → rectMap g left top w h f m ≡ rectMap g left top w h k m
 rect-same g left top w h f k m e =
     rect-by g left top w h k m (rectMap g left top w h f m) (rect-length g left top w h f m)
-    (λ a l i. rect-in g left top w h f m a l i ∙ e _ _ (getD m a 0) (omega arith) (omega arith))
-    (rect-out g left top w h f m)
+    (λ a l i. rect-in g left top w h f m a l i ∙ here a i) (rect-out g left top w h f m)
+  where
+    here : (a : ℕ) → InRect g left top w h a → f (columnOf g a - left) (rowOf g a - top) (getD m a 0) ≡ k (columnOf g a - left) (rowOf g a - top) (getD m a 0)
+    here a i =
+        let place : a ≡ address g (left + (columnOf g a - left)) (top + (rowOf g a - top)) = at-place g a _ _ (omega arith) (omega arith) in
+        subst (λ (t : ℕ). f (columnOf g a - left) (rowOf g a - top) (getD m t 0) ≡ k (columnOf g a - left) (rowOf g a - top) (getD m t 0)) (sym place)
+        (e (columnOf g a - left) (rowOf g a - top) (omega arith) (omega arith))
 
 -- a rectangle that holds no address changes nothing
 pub rect-none : (g : Geometry) (left top w h : ℕ) (f : ℕ → ℕ → ℕ → ℕ) (m : List ℕ)
@@ -149,6 +156,15 @@ rect-one g x y f m v hy l e =
   where
     here : (a : ℕ) → InRect g x y 1 1 a → a ≡ address g x y
     here a i = at-place g a x y (omega arith) (omega arith)
+
+-- a byte made of the one that stood there, stored
+pub stored-by : (g : Geometry) (x y : ℕ) (f : ℕ → ℕ → ℕ → ℕ) (m : List ℕ) (v : ℕ) → v ≡ f 0 0 (getD m (address g x y) 0)
+    → stored g x y v m ≡ rectMap g x y 1 1 f m
+unfolding stored
+stored-by g x y f m v e =
+    rect-same g x y 1 1 (λ j r b. v) f m
+    (λ j r hj hr. subst₂ (λ (j r : ℕ). v ≡ f j r (getD m (address g (x + j) (y + r)) 0)) (omega arith) (omega arith)
+    (e ∙ ap₂ (λ (x y : ℕ). f 0 0 (getD m (address g x y) 0)) (omega arith) (omega arith)))
 
 -- ---- the turns of loops
 

@@ -40,3 +40,7 @@ unfoldable pub movedLeft : Geometry → ℕ → ℕ → ℕ → ℕ → ℕ → 
 movedLeft g left top width height n m =
     rectMap g left top width height
     (λ j r b. cond (ltb (j + n) width) (getD m (address g (left + (j + n)) (top + r)) 0) 0) m
+
+-- one byte stored
+unfoldable pub stored : Geometry → ℕ → ℕ → ℕ → List ℕ → List ℕ
+stored g x y v m = rectMap g x y 1 1 (λ j r b. v) m

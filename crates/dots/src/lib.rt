@@ -5,7 +5,7 @@ use paper::Geometry;
 ghost use mathlib.Core.Path.{_≡_};
 ghost use Prim.Native.Nat.{_+_, _*_, _≤_, _<_, min};
 ghost use Rattle.paper.specs.Panel.{memoryLength, address};
-ghost use Rattle.dots.specs.Rectangles.{Fits, Within, cleared, pulled, scrolledUp, movedLeft};
+ghost use Rattle.dots.specs.Rectangles.{Fits, Within, cleared, pulled, scrolledUp, movedLeft, stored};
 
 // The address of column x, row y.
 pub fn at(g: Geometry, x: usize, y: usize) -> usize
@@ -120,4 +120,13 @@ pub fn move_left(
     let kept = width - gone;
     pull(g, mem, left, top, kept, height, gone, 0);
     clear(g, mem, left + kept, top, gone, height);
+}
+
+// Stores one byte.
+pub fn put(g: Geometry, mem: &mut [u8], x: usize, y: usize, v: u8)
+    requires { ⌜ Within g x y 1 1 × Fits g (now mem) ⌝ }
+    ensures { λ _. ⌜ now (mem .exit) ≡ stored g x y v (now (mem .entry)) ⌝ }
+{
+    let a = at(g, x, y);
+    mem[a] = v;
 }
