@@ -4,3 +4,4 @@ pub mod Addresses
 pub mod Each
 pub mod Rects
 pub mod Pulls
+pub mod Spans

@@ -2,10 +2,13 @@
 // It may use the paper alone, and it knows nothing of characters, windows or the state.
 // Each function's contract gives the whole memory, or the whole glass, afterwards.
 use paper::Geometry;
+use paper::Span;
 ghost use mathlib.Core.Path.{_≡_};
-ghost use Prim.Native.Nat.{_+_, _*_, _≤_, _<_, min};
+ghost use Prim.Native.Nat.{_+_, _*_, _≤_, _<_, min, max};
 ghost use Rattle.paper.specs.Panel.{memoryLength, address};
+ghost use Rattle.paper.specs.Strokes.{grown, shown};
 ghost use Rattle.dots.specs.Rectangles.{Fits, Within, cleared, pulled, scrolledUp, movedLeft, stored};
+ghost use Rattle.dots.specs.Spans.{grownRect, markRect};
 
 // The address of column x, row y.
 pub fn at(g: Geometry, x: usize, y: usize) -> usize
@@ -129,4 +132,68 @@ pub fn put(g: Geometry, mem: &mut [u8], x: usize, y: usize, v: u8)
 {
     let a = at(g, x, y);
     mem[a] = v;
+}
+
+// ---- spans
+
+// The one of two columns that is further left.
+fn leftmost(a: u16, b: u16) -> u16
+    ensures { λ r. ⌜ r ≡ min a b ⌝ }
+{
+    if a < b { a } else { b }
+}
+
+// The one of two columns that is further right.
+fn rightmost(a: u16, b: u16) -> u16
+    ensures { λ r. ⌜ r ≡ max a b ⌝ }
+{
+    if a < b { b } else { a }
+}
+
+// The span that holds what p holds, and the columns from `first` to the one before `end`.
+pub fn grow(p: Span, first: u16, end: u16) -> Span
+    ensures { λ r. ⌜ r ≡ grown p first end ⌝ }
+{
+    let from = p.first;
+    let to = p.end;
+    if to == 0 {
+        Span { first, end }
+    } else {
+        Span {
+            first: leftmost(from, first),
+            end: rightmost(to, end),
+        }
+    }
+}
+
+// Row y's span, grown by the columns of a rectangle on that row.
+fn grow_row(p: Span, y: usize, left: usize, top: usize, width: usize, height: usize) -> Span
+    requires { ⌜ (left + width < 65536) × (top + height < 65536) ⌝ }
+    ensures { λ r. ⌜ r ≡ grownRect left top width height y p ⌝ }
+{
+    let reached = (0 < width) & ((top <= y) & (y < top + height));
+    if reached {
+        grow(p, left as u16, (left + width) as u16)
+    } else {
+        p
+    }
+}
+
+// Both rows' spans, grown by a rectangle.
+pub fn mark(spans: [Span; 2], left: usize, top: usize, width: usize, height: usize) -> [Span; 2]
+    requires { ⌜ (left + width < 65536) × (top + height < 65536) ⌝ }
+    ensures { λ r. ⌜ r ≡ markRect left top width height spans ⌝ }
+{
+    let above = grow_row(spans[0], 0, left, top, width, height);
+    let below = grow_row(spans[1], 1, left, top, width, height);
+    [above, below]
+}
+
+// How many of a span's columns are visible.
+pub fn shown_of(g: Geometry, p: Span) -> usize
+    ensures { λ r. ⌜ r ≡ shown g p ⌝ }
+{
+    let first = p.first as usize;
+    let end = least(p.end as usize, g.visible);
+    if first < end { end - first } else { 0 }
 }
