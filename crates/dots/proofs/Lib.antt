@@ -5,3 +5,4 @@ pub mod Each
 pub mod Rects
 pub mod Pulls
 pub mod Spans
+pub mod Glass

@@ -6,9 +6,10 @@ use paper::Span;
 ghost use mathlib.Core.Path.{_≡_};
 ghost use Prim.Native.Nat.{_+_, _*_, _≤_, _<_, min, max};
 ghost use Rattle.paper.specs.Panel.{memoryLength, address};
-ghost use Rattle.paper.specs.Strokes.{grown, shown};
+ghost use Rattle.paper.specs.Strokes.{grown, shown, shownAll, refreshed};
 ghost use Rattle.dots.specs.Rectangles.{Fits, Within, cleared, pulled, scrolledUp, movedLeft, stored};
 ghost use Rattle.dots.specs.Spans.{grownRect, markRect};
+ghost use Rattle.dots.specs.Glass.{Shows, copied};
 
 // The address of column x, row y.
 pub fn at(g: Geometry, x: usize, y: usize) -> usize
@@ -196,4 +197,22 @@ pub fn shown_of(g: Geometry, p: Span) -> usize
     let first = p.first as usize;
     let end = least(p.end as usize, g.visible);
     if first < end { end - first } else { 0 }
+}
+
+// ---- the glass
+
+// Copies a span's visible columns of row y to the glass. The number of bytes copied, counted one by one.
+pub fn copy_row(g: Geometry, mem: &[u8], glass: &mut [u8], y: usize, p: Span) -> usize
+    requires { ⌜ (y < g .rows) × Shows g (now mem) (now glass) ⌝ }
+    ensures { λ n. ⌜ (now (glass .exit) ≡ copied g (now (mem .entry)) y p (now (glass .entry))) × (n ≡ shown g p) ⌝ }
+{
+    let first = p.first as usize;
+    let width = shown_of(g, p);
+    let mut moved = 0;
+    for j in 0..width {
+        let a = at(g, first + j, y);
+        glass[a] = mem[a];
+        moved += 1;
+    }
+    moved
 }
