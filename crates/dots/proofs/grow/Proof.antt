@@ -1,0 +1,17 @@
+-- `dots::grow` meets its contract. Assumes nothing.
+use borrow.Author.Needs.{needs}
+use borrow.Author.Tests.{eq-eqb, ne-eqb}
+use Rattle.paper.specs.Strokes.{grown}
+use Rattle.dots.proofs.grow.Statement.{statement}
+use Rattle.dots.proofs.grow.Tie as tie
+
+returns : tie.Need-returns
+unfolding grown
+returns c = rw (eq-eqb _ _ (c .if1 .taken))
+
+returns-2 : tie.Need-returns-2
+unfolding grown
+returns-2 c = rw (ne-eqb _ _ (c .before .before .if1 .left)) (cc)
+
+pub grow-spec : {M : Type 1} → statement M
+grow-spec = tie.close (tie.spec (λ c κs. search needs) (λ c κs. search needs) returns returns-2)

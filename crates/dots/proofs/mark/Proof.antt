@@ -1,0 +1,16 @@
+-- `dots::mark` meets its contract. Assumes nothing.
+use mathlib.Core.Path.{ap₂, _∙_}
+use mathlib.Core.List.{List, [], _∷_}
+use Rattle.paper.specs.declared.Span.{Span}
+use borrow.Author.Needs.{needs}
+use Rattle.dots.proofs.Spans.{mark-two}
+use Rattle.dots.proofs.mark.Statement.{statement}
+use Rattle.dots.proofs.mark.Tie as tie
+
+returns : tie.Need-returns
+returns c = ap₂ (λ (p q : Span). p ∷ q ∷ []) (c .before .before .grow-row .ensures) (c .grow-row2 .ensures) ∙ mark-two _ _ _ _ _ (search needs)
+
+pub mark-spec : {M : Type 1} → statement M
+mark-spec =
+    tie.close
+    (tie.spec (λ c. search needs) (λ c κs. search needs) (λ c. search needs) (λ c κs. search needs) returns)

@@ -1,0 +1,3 @@
+pub mod Rectangles
+pub mod Spans
+pub mod Glass

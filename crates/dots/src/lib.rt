@@ -1,0 +1,218 @@
+// Dots: the memory as bytes at rows·x + y. Rectangles are cleared and moved, spans of it are copied to the glass, spans grow.
+// It may use the paper alone, and it knows nothing of characters, windows or the state.
+// Each function's contract gives the whole memory, or the whole glass, afterwards.
+use paper::Geometry;
+use paper::Span;
+ghost use mathlib.Core.Path.{_≡_};
+ghost use Prim.Native.Nat.{_+_, _*_, _≤_, _<_, min, max};
+ghost use Rattle.paper.specs.Panel.{memoryLength, address};
+ghost use Rattle.paper.specs.Strokes.{grown, shown, shownAll, refreshed};
+ghost use Rattle.dots.specs.Rectangles.{Fits, Within, cleared, pulled, scrolledUp, movedLeft, stored};
+ghost use Rattle.dots.specs.Spans.{grownRect, markRect};
+ghost use Rattle.dots.specs.Glass.{Shows, copied};
+
+// The address of column x, row y.
+pub fn at(g: Geometry, x: usize, y: usize) -> usize
+    requires { ⌜ (x < g .columns) × (y < g .rows) × (memoryLength g ≤ 65536) ⌝ }
+    ensures { λ a. ⌜ (a ≡ address g x y) × (a < memoryLength g) ⌝ }
+{
+    g.rows * x + y
+}
+
+// Zeroes the columns of one row.
+fn clear_row(g: Geometry, mem: &mut [u8], left: usize, y: usize, width: usize)
+    requires { ⌜ Within g left y width 1 × Fits g (now mem) ⌝ }
+    ensures { λ _. ⌜ now (mem .exit) ≡ cleared g left y width 1 (now (mem .entry)) ⌝ }
+{
+    for j in 0..width {
+        let a = at(g, left + j, y);
+        mem[a] = 0;
+    }
+}
+
+// Zeroes a rectangle.
+pub fn clear(g: Geometry, mem: &mut [u8], left: usize, top: usize, width: usize, height: usize)
+    requires { ⌜ Within g left top width height × Fits g (now mem) ⌝ }
+    ensures { λ _. ⌜ now (mem .exit) ≡ cleared g left top width height (now (mem .entry)) ⌝ }
+{
+    for r in 0..height {
+        clear_row(g, mem, left, top + r, width);
+    }
+}
+
+// The smaller of two numbers.
+fn least(a: usize, b: usize) -> usize
+    ensures { λ r. ⌜ r ≡ min a b ⌝ }
+{
+    if a < b { a } else { b }
+}
+
+// Each column of one row takes the byte `right` columns right of it and `down` rows below. From the left, so that no byte is
+// taken after it was stored.
+fn pull_row(
+    g: Geometry,
+    mem: &mut [u8],
+    left: usize,
+    y: usize,
+    width: usize,
+    right: usize,
+    down: usize,
+)
+    requires { ⌜ Within g left y (width + right) (1 + down) × Fits g (now mem) ⌝ }
+    ensures { λ _. ⌜ now (mem .exit) ≡ pulled g left y width 1 right down (now (mem .entry)) ⌝ }
+{
+    for j in 0..width {
+        let from = at(g, left + (j + right), y + down);
+        let v = mem[from];
+        let to = at(g, left + j, y);
+        mem[to] = v;
+    }
+}
+
+// The same for each row of a rectangle, from the top.
+fn pull(
+    g: Geometry,
+    mem: &mut [u8],
+    left: usize,
+    top: usize,
+    width: usize,
+    height: usize,
+    right: usize,
+    down: usize,
+)
+    requires { ⌜ Within g left top (width + right) (height + down) × Fits g (now mem) ⌝ }
+    ensures { λ _. ⌜ now (mem .exit) ≡ pulled g left top width height right down (now (mem .entry)) ⌝ }
+{
+    for r in 0..height {
+        pull_row(g, mem, left, top + r, width, right, down);
+    }
+}
+
+// The rows of a rectangle move up, as many as `lines` says, and zeros enter below.
+pub fn scroll_up(
+    g: Geometry,
+    mem: &mut [u8],
+    left: usize,
+    top: usize,
+    width: usize,
+    height: usize,
+    lines: usize,
+)
+    requires { ⌜ Within g left top width height × Fits g (now mem) ⌝ }
+    ensures { λ _. ⌜ now (mem .exit) ≡ scrolledUp g left top width height lines (now (mem .entry)) ⌝ }
+{
+    let gone = least(lines, height);
+    let kept = height - gone;
+    pull(g, mem, left, top, width, kept, 0, gone);
+    clear(g, mem, left, top + kept, width, gone);
+}
+
+// The columns of a rectangle move left by n, and zeros enter on the right.
+pub fn move_left(
+    g: Geometry,
+    mem: &mut [u8],
+    left: usize,
+    top: usize,
+    width: usize,
+    height: usize,
+    n: usize,
+)
+    requires { ⌜ Within g left top width height × Fits g (now mem) ⌝ }
+    ensures { λ _. ⌜ now (mem .exit) ≡ movedLeft g left top width height n (now (mem .entry)) ⌝ }
+{
+    let gone = least(n, width);
+    let kept = width - gone;
+    pull(g, mem, left, top, kept, height, gone, 0);
+    clear(g, mem, left + kept, top, gone, height);
+}
+
+// Stores one byte.
+pub fn put(g: Geometry, mem: &mut [u8], x: usize, y: usize, v: u8)
+    requires { ⌜ Within g x y 1 1 × Fits g (now mem) ⌝ }
+    ensures { λ _. ⌜ now (mem .exit) ≡ stored g x y v (now (mem .entry)) ⌝ }
+{
+    let a = at(g, x, y);
+    mem[a] = v;
+}
+
+// ---- spans
+
+// The one of two columns that is further left.
+fn leftmost(a: u16, b: u16) -> u16
+    ensures { λ r. ⌜ r ≡ min a b ⌝ }
+{
+    if a < b { a } else { b }
+}
+
+// The one of two columns that is further right.
+fn rightmost(a: u16, b: u16) -> u16
+    ensures { λ r. ⌜ r ≡ max a b ⌝ }
+{
+    if a < b { b } else { a }
+}
+
+// The span that holds what p holds, and the columns from `first` to the one before `end`.
+pub fn grow(p: Span, first: u16, end: u16) -> Span
+    ensures { λ r. ⌜ r ≡ grown p first end ⌝ }
+{
+    let from = p.first;
+    let to = p.end;
+    if to == 0 {
+        Span { first, end }
+    } else {
+        Span {
+            first: leftmost(from, first),
+            end: rightmost(to, end),
+        }
+    }
+}
+
+// Row y's span, grown by the columns of a rectangle on that row.
+fn grow_row(p: Span, y: usize, left: usize, top: usize, width: usize, height: usize) -> Span
+    requires { ⌜ (left + width < 65536) × (top + height < 65536) ⌝ }
+    ensures { λ r. ⌜ r ≡ grownRect left top width height y p ⌝ }
+{
+    let reached = (0 < width) & ((top <= y) & (y < top + height));
+    if reached {
+        grow(p, left as u16, (left + width) as u16)
+    } else {
+        p
+    }
+}
+
+// Both rows' spans, grown by a rectangle.
+pub fn mark(spans: [Span; 2], left: usize, top: usize, width: usize, height: usize) -> [Span; 2]
+    requires { ⌜ (left + width < 65536) × (top + height < 65536) ⌝ }
+    ensures { λ r. ⌜ r ≡ markRect left top width height spans ⌝ }
+{
+    let above = grow_row(spans[0], 0, left, top, width, height);
+    let below = grow_row(spans[1], 1, left, top, width, height);
+    [above, below]
+}
+
+// How many of a span's columns are visible.
+pub fn shown_of(g: Geometry, p: Span) -> usize
+    ensures { λ r. ⌜ r ≡ shown g p ⌝ }
+{
+    let first = p.first as usize;
+    let end = least(p.end as usize, g.visible);
+    if first < end { end - first } else { 0 }
+}
+
+// ---- the glass
+
+// Copies a span's visible columns of row y to the glass. The number of bytes copied, counted one by one.
+pub fn copy_row(g: Geometry, mem: &[u8], glass: &mut [u8], y: usize, p: Span) -> usize
+    requires { ⌜ (y < g .rows) × Shows g (now mem) (now glass) ⌝ }
+    ensures { λ n. ⌜ (now (glass .exit) ≡ copied g (now (mem .entry)) y p (now (glass .entry))) × (n ≡ shown g p) ⌝ }
+{
+    let first = p.first as usize;
+    let width = shown_of(g, p);
+    let mut moved = 0;
+    for j in 0..width {
+        let a = at(g, first + j, y);
+        glass[a] = mem[a];
+        moved += 1;
+    }
+    moved
+}
