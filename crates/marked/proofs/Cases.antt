@@ -1,12 +1,10 @@
 -- The marked cases hold, for every font: `marked`. Each is computed from the paper's definitions. Assumes nothing.
-use mathlib.Core.Path.{_≡_, refl, sym, ap, _∙_, subst}
-use mathlib.Core.Logic.{⊎-elim}
+use mathlib.Core.Path.{_≡_, refl, ap, _∙_}
 use mathlib.Core.Bool.{Bool, true, false, cond, _&&_}
 use mathlib.Core.List.{List, [], _∷_, _++_}
-use Prim.Native.Nat.{ℕ, zero, suc, _+_, _*_, _-_, _/_, _%_, _<_}
+use Prim.Native.Nat.{ℕ, _+_, _*_, _-_, _/_, _%_, _<_}
 use lib.ListN.{length, getD, replicate}
-use native.Mathlib.Nat.{le-of-suc-le-suc, not-suc-le-zero, eq-or-lt-of-le}
-use lib.Dec.{T, leb, ltb, eqb, eqb→eq}
+use lib.Dec.{leb, ltb, eqb}
 use Rattle.paper.specs.declared.State.{State}
 use Rattle.paper.specs.declared.Answer.{Answer}
 use Rattle.paper.specs.declared.Refusal.the-variants.{Accepted}
@@ -20,6 +18,7 @@ use Rattle.paper.specs.Cells.{cellDot, penned, cellWidth, tooLarge}
 use Rattle.paper.specs.Moves.{nextLine, nextLineUp, pushLeft, htOf, drawTab, blankTab, characterOf, lineDown, lineDownUp, lineFeedOf, clearOf}
 use Rattle.paper.specs.Carry.{notCarried, isHeld, ownersOnly, outOfDomain, notDefined, cellExceeds, carriedOut, commandOf, takeOf, byteMeans}
 use Rattle.paper.specs.Calls.{isAccepted, startRefusal, startCall, feedRefusal, Feeding, next, run, fedNothing, feedCall, holdRefusal, heldBy, holdCall, refreshRefusal, emptied, refreshCall}
+use Rattle.laws.proofs.Dots.{byte-rule}
 use Rattle.marked.specs.Marked.{Font, begun, fresh, freshState, fed, lit, fedLit, answersTo, cursorAfter, nextRefresh, rows, _of_, column, glyph, glyphLow, cursorSet, md2, md3, windowOne, image, held, fedHeld, Marked}
 
 -- a feed that is not refused runs over its piece
@@ -30,27 +29,6 @@ runs font s m piece f l a = rw (f, l, a)
 
 -- ---- the dots of the glyph of 41h as bytes
 
--- a test of every number below n
-abbrev every : (ℕ → Bool) → ℕ → Bool
-every f zero = true
-every f (suc n) = f n && every f n
-
-and-left : (p q : Bool) → T (p && q) → T p
-and-left true q h = tt
-and-left false q h = h
-
-and-right : (p q : Bool) → T (p && q) → T q
-and-right true q h = h
-and-right false q h = absurd h
-
--- a rule that antt computes for each number below n holds of each
-every-holds : (f : ℕ → Bool) (n : ℕ) → T (every f n) → (k : ℕ) → k < n → T (f k)
-every-holds f zero t k h = absurd (not-suc-le-zero h)
-every-holds f (suc n) t k h =
-    ⊎-elim (λ e. subst (λ (i : ℕ). T (f i)) (sym e) (and-left (f n) (every f n) t))
-    (λ l. every-holds f n (and-right (f n) (every f n) t) k l)
-    (eq-or-lt-of-le (le-of-suc-le-suc h))
-
 -- a glyph's column with its blank dot below, and above
 dotsBelow : ℕ → ℕ
 dotsBelow v = byteOf (λ i. cond (ltb i 7) (dot v i) false)
@@ -60,11 +38,12 @@ dotsAbove v = byteOf (λ i. leb 1 i && cond (ltb (i - 1) 7) (dot v (i - 1)) fals
 
 below-is : (v : ℕ) → v < 256 → dotsBelow v ≡ v / 2 * 2
 unfolding dotsBelow byteOf
-below-is v h = eqb→eq _ _ (every-holds (λ n. eqb (dotsBelow n) (n / 2 * 2)) 256 tt v h)
+below-is v h = byte-rule (λ n i. cond (ltb i 7) (dot n i) false) (λ n. n / 2 * 2) refl v h
 
 above-is : (v : ℕ) → v < 256 → dotsAbove v ≡ v / 2
 unfolding dotsAbove byteOf
-above-is v h = eqb→eq _ _ (every-holds (λ n. eqb (dotsAbove n) (n / 2)) 256 tt v h)
+above-is v h =
+    byte-rule (λ n i. leb 1 i && cond (ltb (i - 1) 7) (dot n (i - 1)) false) (λ n. n / 2) refl v h
 
 -- the glyph's five columns, each taken through d
 abbrev columns : (ℕ → ℕ) → List ℕ → List ℕ

@@ -82,10 +82,14 @@ abbrev pub feeding : Refusal → State → ℕ → ℕ → Outcome → List ℕ 
 feeding r s c a o m =
     record { answer = record { refusal = r; state = s; carried = c; answered = a; outcome = o }; mem = m }
 
+-- the state that a meaning leaves: its strokes have grown the spans
+abbrev pub settled : Meaning → State
+settled t = withSpans (t .state) (markAll (t .state .spans) (t .strokes))
+
 -- one byte taken: its strokes move the memory and grow the spans, its outcome is counted
 abbrev pub counted : Geometry → Feeding → Meaning → Feeding
 counted g f t =
-    feeding (f .answer .refusal) (withSpans (t .state) (markAll (t .state .spans) (t .strokes)))
+    feeding (f .answer .refusal) (settled t)
     (f .answer .carried + carriedBy (t .outcome))
     (f .answer .answered + answeredBy (t .outcome))
     (t .outcome)
