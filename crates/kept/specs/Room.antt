@@ -1,0 +1,55 @@
+-- What moves need and keep, as records: a usable geometry, a view in memory, room for a cell, strokes inside a rectangle.
+-- Assumes nothing.
+use mathlib.Core.Path.{_≡_}
+use mathlib.Core.List.{List, [], _∷_}
+use Prim.Native.Nat.{ℕ, _+_, _<_, _≤_}
+use Rattle.paper.specs.declared.Geometry.{Geometry}
+use Rattle.paper.specs.declared.View.{View}
+use Rattle.paper.specs.Panel.{memoryLength}
+use Rattle.paper.specs.Strokes.{Stroke}
+use Rattle.paper.specs.Moves.{Moved}
+
+-- a geometry for which the laws hold: some rows, some visible and some hidden columns, and addresses that code can count
+pub record Usable (g : Geometry) : Type 0 where
+  pub rows-some : 0 < g .rows
+  pub visible-some : 0 < g .visible
+  pub visible-part : g .visible < g .columns
+  pub small : memoryLength g ≤ 65536
+  pub columns-small : g .columns < 65536
+  pub rows-small : g .rows < 65536
+
+-- a range that lies in memory, with its cursor in it
+pub record InMemory (g : Geometry) (v : View) : Type 0 where
+  pub across : v .left + v .width ≤ g .columns
+  pub down : v .top + v .height ≤ g .rows
+  pub x : v .x < v .width
+  pub y : v .y < v .height
+
+-- and a cell, c columns wide and l rows high, that does not exceed it
+pub record Room (g : Geometry) (v : View) (c l : ℕ) : Type 0 where
+  pub place : InMemory g v
+  pub c-some : 0 < c
+  pub c-fits : c ≤ v .width
+  pub l-some : 0 < l
+  pub l-fits : l ≤ v .height
+
+-- a stroke's rectangle lies in a rectangle
+abbrev pub Inside : ℕ → ℕ → ℕ → ℕ → Stroke → Type 0
+Inside left top width height s =
+    (left ≤ s .left) × (s .left + s .width ≤ left + width) × (top ≤ s .top) × (s .top + s .height ≤ top + height)
+
+-- and so does each of several
+abbrev pub AllIn : ℕ → ℕ → ℕ → ℕ → List Stroke → Type 0
+AllIn left top width height [] = Unit {0}
+AllIn left top width height (s ∷ ss) = Inside left top width height s × AllIn left top width height ss
+
+-- a move that keeps the range and the mode, leaves the cursor in the range and writes in it only
+pub record Kept (v : View) (t : Moved) : Type 0 where
+  pub left : t .view .left ≡ v .left
+  pub top : t .view .top ≡ v .top
+  pub width : t .view .width ≡ v .width
+  pub height : t .view .height ≡ v .height
+  pub mode : t .view .mode ≡ v .mode
+  pub x : t .view .x < v .width
+  pub y : t .view .y < v .height
+  pub inside : AllIn (v .left) (v .top) (v .width) (v .height) (t .strokes)
