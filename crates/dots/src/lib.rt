@@ -41,7 +41,7 @@ pub fn clear(g: Geometry, mem: &mut [u8], left: usize, top: usize, width: usize,
 }
 
 // The smaller of two numbers.
-fn least(a: usize, b: usize) -> usize
+pub fn least(a: usize, b: usize) -> usize
     ensures { λ r. ⌜ r ≡ min a b ⌝ }
 {
     if a < b { a } else { b }

@@ -1,0 +1,20 @@
+-- What a function that moves owes: it did what the paper's move means. Assumes nothing.
+use mathlib.Core.Path.{_≡_}
+use mathlib.Core.List.{List}
+use Prim.Native.Nat.{ℕ}
+use Rattle.paper.specs.declared.Geometry.{Geometry}
+use Rattle.paper.specs.declared.Span.{Span}
+use Rattle.paper.specs.declared.View.{View}
+use Rattle.paper.specs.Strokes.{applyAll, markAll}
+use Rattle.paper.specs.Moves.{Moved}
+use Rattle.moves.specs.declared.Pen.{Pen}
+
+-- from spans and memory before: the view that the move gives, the spans grown by its strokes, the memory written by them
+pub record Does (g : Geometry) (ps : List Span) (m : List ℕ) (p : Pen) (m′ : List ℕ) (t : Moved) : Type 0 where
+  pub view : p .view ≡ t .view
+  pub spans : p .spans ≡ markAll ps (t .strokes)
+  pub mem : m′ ≡ applyAll g m (t .strokes)
+
+-- a pen by its parts
+abbrev pub pen : View → List Span → Pen
+pen v ps = record { view = v; spans = ps }
