@@ -31,8 +31,11 @@ pub fn to(v: View, x: usize, y: usize) -> View
 fn place(p: Pen, x: usize, y: usize) -> Pen
     ensures { λ r. ⌜ r ≡ pen (to (p .view) x y) (p .spans) ⌝ }
 {
-    let v = to(p.view, x, y);
-    Pen { view: v, ..p }
+    let v = p.view;
+    Pen {
+        view: to(v, x, y),
+        ..p
+    }
 }
 
 // Whether another line of cells fits below.
@@ -40,20 +43,31 @@ fn room_below(v: View, l: usize) -> bool
     requires { ⌜ (v .y < v .height) × (l ≤ v .height) × (v .height < 65536) ⌝ }
     ensures { λ r. ⌜ r ≡ roomBelow v l ⌝ }
 {
-    v.y + 2 * l <= v.height
+    let y = v.y;
+    y + 2 * l <= v.height
+}
+
+// The line of cells below, or the top one, in the same column.
+fn line_down(v: View, l: usize) -> View
+    requires { ⌜ (v .y < v .height) × (l ≤ v .height) × (v .height < 65536) ⌝ }
+    ensures { λ r. ⌜ r ≡ lineDown v l ⌝ }
+{
+    let x = v.x;
+    let y = v.y;
+    if room_below(v, l) {
+        return to(v, x, y + l);
+    }
+    to(v, x, 0)
 }
 
 // ---- HT
 
-// The next line of cells, or the first one.
+// The next line of cells, or the first one: from the line's start, the one below.
 fn next_line(v: View, l: usize) -> View
     requires { ⌜ (v .y < v .height) × (l ≤ v .height) × (v .height < 65536) ⌝ }
     ensures { λ r. ⌜ r ≡ nextLine v l ⌝ }
 {
-    if room_below(v, l) {
-        return to(v, 0, v.y + l);
-    }
-    to(v, 0, 0)
+    line_down(to(v, 0, v.y), l)
 }
 
 // The range moves up l rows, and all of it is written; the cursor stays.
@@ -64,8 +78,10 @@ fn scroll(g: Geometry, mem: &mut [u8], p: Pen, l: usize) -> Pen
     let v = p.view;
     dots::scroll_up(g, mem, v.left, v.top, v.width, v.height, l);
     let before = p.spans;
-    let spans = dots::mark(before, v.left, v.top, v.width, v.height);
-    Pen { view: v, spans }
+    Pen {
+        view: v,
+        spans: dots::mark(before, v.left, v.top, v.width, v.height),
+    }
 }
 
 // The next line of cells; without room the range scrolls up.
@@ -74,11 +90,13 @@ fn next_line_up(g: Geometry, mem: &mut [u8], p: Pen, l: usize) -> Pen
     ensures { λ r. ⌜ Does g (p .spans) (now (mem .entry)) r (now (mem .exit)) (nextLineUp g (p .view) l) ⌝ }
 {
     let v = p.view;
+    let y = v.y;
+    let height = v.height;
     if room_below(v, l) {
-        return place(p, 0, v.y + l);
+        return place(p, 0, y + l);
     }
     let q = scroll(g, mem, p, l);
-    place(q, 0, v.height - l)
+    place(q, 0, height - l)
 }
 
 // The cursor's rows move left until a cell fits at the right end.
@@ -87,12 +105,17 @@ fn push_left(g: Geometry, mem: &mut [u8], p: Pen, c: usize, l: usize) -> Pen
     ensures { λ r. ⌜ Does g (p .spans) (now (mem .entry)) r (now (mem .exit)) (pushLeft g (p .view) c l) ⌝ }
 {
     let v = p.view;
-    let top = v.top + v.y;
-    let height = dots::least(l, v.height - v.y);
-    dots::move_left(g, mem, v.left, top, v.width, height, v.x + 2 * c - v.width);
+    let x = v.x;
+    let y = v.y;
+    let width = v.width;
+    let top = v.top + y;
+    let height = dots::least(l, v.height - y);
+    dots::move_left(g, mem, v.left, top, width, height, x + 2 * c - width);
     let before = p.spans;
-    let spans = dots::mark(before, v.left, top, v.width, height);
-    place(Pen { view: v, spans }, v.width - c, v.y)
+    Pen {
+        view: to(v, width - c, y),
+        spans: dots::mark(before, v.left, top, width, height),
+    }
 }
 
 // HT.
@@ -101,14 +124,20 @@ pub fn tab(g: Geometry, mem: &mut [u8], p: Pen, c: usize, l: usize) -> Pen
     ensures { λ r. ⌜ Does g (p .spans) (now (mem .entry)) r (now (mem .exit)) (htOf g (p .view) c l) ⌝ }
 {
     let v = p.view;
-    if v.x + 2 * c <= v.width {
-        return place(p, v.x + c, v.y);
+    let x = v.x;
+    let y = v.y;
+    let width = v.width;
+    let mode = v.mode;
+    if x + 2 * c <= width {
+        return place(p, x + c, y);
     }
-    if v.mode == 1 {
-        let n = next_line(v, l);
-        return Pen { view: n, ..p };
+    if mode == 1 {
+        return Pen {
+            view: next_line(v, l),
+            ..p
+        };
     }
-    if v.mode == 2 {
+    if mode == 2 {
         return next_line_up(g, mem, p, l);
     }
     push_left(g, mem, p, c, l)
@@ -121,24 +150,17 @@ pub fn back(v: View, c: usize, l: usize) -> View
     requires { ⌜ c ≤ v .width ⌝ }
     ensures { λ r. ⌜ r ≡ backOf v c l ⌝ }
 {
-    if c <= v.x {
-        return to(v, v.x - c, v.y);
+    let x = v.x;
+    let y = v.y;
+    let width = v.width;
+    let mode = v.mode;
+    if c <= x {
+        return to(v, x - c, y);
     }
-    if (v.mode != 3) & (l <= v.y) {
-        return to(v, v.width - c, v.y - l);
+    if (mode != 3) & (l <= y) {
+        return to(v, width - c, y - l);
     }
     v
-}
-
-// The line of cells below, or the top one, in the same column.
-fn line_down(v: View, l: usize) -> View
-    requires { ⌜ (v .y < v .height) × (l ≤ v .height) × (v .height < 65536) ⌝ }
-    ensures { λ r. ⌜ r ≡ lineDown v l ⌝ }
-{
-    if room_below(v, l) {
-        return to(v, v.x, v.y + l);
-    }
-    to(v, v.x, 0)
 }
 
 // The line of cells below; without room the range scrolls up under the cursor.
@@ -147,8 +169,10 @@ fn line_down_up(g: Geometry, mem: &mut [u8], p: Pen, l: usize) -> Pen
     ensures { λ r. ⌜ Does g (p .spans) (now (mem .entry)) r (now (mem .exit)) (lineDownUp g (p .view) l) ⌝ }
 {
     let v = p.view;
+    let x = v.x;
+    let y = v.y;
     if room_below(v, l) {
-        return place(p, v.x, v.y + l);
+        return place(p, x, y + l);
     }
     scroll(g, mem, p, l)
 }
@@ -159,11 +183,14 @@ pub fn line_feed(g: Geometry, mem: &mut [u8], p: Pen, l: usize) -> Pen
     ensures { λ r. ⌜ Does g (p .spans) (now (mem .entry)) r (now (mem .exit)) (lineFeedOf g (p .view) l) ⌝ }
 {
     let v = p.view;
-    if v.mode == 1 {
-        let n = line_down(v, l);
-        return Pen { view: n, ..p };
+    let mode = v.mode;
+    if mode == 1 {
+        return Pen {
+            view: line_down(v, l),
+            ..p
+        };
     }
-    if v.mode == 2 {
+    if mode == 2 {
         return line_down_up(g, mem, p, l);
     }
     p
@@ -177,6 +204,8 @@ pub fn clear(g: Geometry, mem: &mut [u8], p: Pen) -> Pen
     let v = p.view;
     dots::clear(g, mem, v.left, v.top, v.width, v.height);
     let before = p.spans;
-    let spans = dots::mark(before, v.left, v.top, v.width, v.height);
-    place(Pen { view: v, spans }, 0, 0)
+    Pen {
+        view: to(v, 0, 0),
+        spans: dots::mark(before, v.left, v.top, v.width, v.height),
+    }
 }
