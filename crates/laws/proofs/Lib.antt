@@ -1,0 +1,4 @@
+pub mod Every
+pub mod Dots
+pub mod Penned
+pub mod Drawn
