@@ -1,0 +1,6 @@
+-- Laws that belong to no one function: of tests, of addresses, of lists changed by address, of rectangles.
+pub mod Tests
+pub mod Addresses
+pub mod Each
+pub mod Rects
+pub mod Pulls

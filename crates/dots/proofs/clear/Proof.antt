@@ -1,0 +1,44 @@
+-- `dots::clear` meets its contract. The loop's invariant: the first r rows are zeroed. Assumes nothing.
+use mathlib.Core.Path.{_≡_, refl, _∙_}
+use Prim.Native.Nat.{_≤_, _-_}
+use native.Mathlib.Omega.{arith}
+use lib.ListN.{length}
+use Rattle.dots.specs.Rectangles.{cleared}
+use Rattle.dots.proofs.Rects.{rect-none, rect-turn, rect-end}
+use Rattle.dots.proofs.clear.Statement.{statement}
+use Rattle.dots.proofs.clear.Tie as tie
+
+abbrev Inv-loop : tie.InvT-loop
+Inv-loop g mem₀ left top width height r₀ mem r =
+    (r ≤ height) × (length mem ≡ length mem₀) × (mem ≡ cleared g left top width r mem₀)
+
+abbrev μ-loop : tie.MeasureT-loop
+μ-loop g mem₀ left top width height r₀ mem r = height - r
+
+loop-holds : tie.Need-loop-holds Inv-loop μ-loop
+unfolding cleared
+loop-holds c = (omega arith, refl, rect-none _ _ _ _ _ _ _ (λ a i. omega arith))
+
+loop-again : tie.Need-loop-again Inv-loop μ-loop
+unfolding cleared
+loop-again c =
+    (omega arith, omega (arith, c .before .before .clear-row .kept .1 .0), c .before .before .clear-row .ensures ∙ rect-turn _ _ _ _ _ _ _ _ _ (c .before .before .before .before .before .loop .inv .2) (λ j b hj. refl))
+
+returns : tie.Need-returns Inv-loop μ-loop
+unfolding cleared
+returns c = rect-end _ _ _ _ _ _ _ _ _ (c .before .loop .inv .2) (c .before .loop .inv .0) (c .loop-test .left)
+
+pub clear-spec : {M : Type 1} → statement M
+clear-spec =
+    tie.close
+    (tie.spec
+    Inv-loop
+    μ-loop
+    loop-holds
+    (λ c. omega arith)
+    (λ c κs. omega arith)
+    (λ c. omega arith)
+    (λ c. omega arith)
+    loop-again
+    (λ c. omega arith)
+    returns)
