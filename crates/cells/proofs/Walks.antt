@@ -1,0 +1,61 @@
+-- A walk over a cell's columns: at column j the glyph's column j / across is at hand. Assumes nothing.
+use mathlib.Core.Path.{_≡_, refl, sym, ap, subst, _∙_}
+use mathlib.Core.Bool.{Bool, true, false, cond}
+use mathlib.Core.List.{List}
+use Prim.Native.Nat.{ℕ, zero, suc, _+_, _*_, _-_, _/_, _<_, _≤_}
+use native.Mathlib.Nat.{add-zero, mul-add-div, div-eq-of-lt}
+use native.Mathlib.Omega.{arith}
+use borrow.Author.Tests.{eqb-true, eqb-false}
+use lib.Dec.{eqb}
+use Rattle.paper.specs.declared.Style.{Style}
+use Rattle.laws.specs.Bytes.{reversedByte, cellByte}
+use Rattle.cells.specs.declared.Walk.{Walk}
+use Rattle.cells.specs.Columns.{atRow, inkColumn, nextOf}
+
+-- what is i past a multiple of n
+quotient : (n k i j : ℕ) → j ≡ n * k + i → i < n → j / n ≡ k
+quotient n k i j e h =
+    ap (λ (a : ℕ). a / n) e ∙ mul-add-div (omega arith) k i ∙ ap (λ (a : ℕ). k + a) (div-eq-of-lt h) ∙ add-zero k
+
+-- a walk after j columns
+pub record Walked (font : List ℕ) (code w : ℕ) (y : Style) (row j : ℕ) (s : Walk) : Type 0 where
+  pub at-hand : s .column ≡ inkColumn font code w y row (s .index)
+  pub counted : j ≡ y .across * s .index + s .times
+  pub short : s .times ≤ y .across
+  pub few : s .index ≤ j
+
+module _ (font : List ℕ) (code w : ℕ) (y : Style) (row j : ℕ) where
+  -- a column's rows, reversed, are those of the cell
+  ink-row : (r : ℕ) → r < 2 → atRow (inkColumn font code w y row (j / y .across)) r ≡ reversedByte y (cellByte font code w y row j r)
+  unfolding inkColumn cellByte
+  ink-row zero h = refl
+  ink-row (suc zero) h = refl
+  ink-row (suc (suc r)) h = absurd (omega arith)
+
+  -- one column on
+  pub walked-next : (s s′ : Walk) → 1 ≤ y .across → Walked font code w y row j s → s′ ≡ nextOf font code w y row s
+      → Walked font code w y row (j + 1) s′ × (1 ≤ s′ .times)
+  unfolding nextOf
+  walked-next s s′ p h e =
+      subst (λ (u : Walk). Walked font code w y row (j + 1) u × (1 ≤ u .times)) (sym e) (go (eqb (s .times) (y .across)) refl)
+    where
+      after : Bool → Walk
+      after t =
+          cond t (record { column = inkColumn font code w y row (s .index + 1); index = s .index + 1; times = 1 })
+          (record { column = s .column; index = s .index; times = s .times + 1 })
+
+      go : (t : Bool) → eqb (s .times) (y .across) ≡ t → Walked font code w y row (j + 1) (after t) × (1 ≤ after t .times)
+      go true q =
+          let full = eqb-true (s .times) (y .across) q in
+          (record { at-hand = refl; counted = omega arith; short = p; few = omega arith }, omega arith)
+      go false q =
+          let more = eqb-false (s .times) (y .across) q in
+          (record { at-hand = h .at-hand; counted = omega arith; short = omega arith; few = omega arith }, omega arith)
+
+  -- the column at hand is the cell's
+  pub walked-row : (s : Walk) → Walked font code w y row (j + 1) s → 1 ≤ s .times → (r : ℕ) → r < 2
+      → atRow (s .column) r ≡ reversedByte y (cellByte font code w y row j r)
+  walked-row s h p r l =
+      ap (λ (t : _). atRow t r)
+      (h .at-hand ∙ ap (inkColumn font code w y row) (sym (quotient (y .across) (s .index) (s .times - 1) j (omega arith) (omega arith))))
+      ∙ ink-row r l

@@ -1,0 +1,42 @@
+-- The columns of a cell in bytes, and memory after one of them: what the functions inside owe. Assumes nothing.
+use mathlib.Core.Bool.{cond}
+use mathlib.Core.List.{List}
+use Prim.Native.Nat.{ℕ, _+_}
+use lib.Dec.{eqb}
+use Rattle.paper.specs.declared.Geometry.{Geometry}
+use Rattle.paper.specs.declared.Style.{Style}
+use Rattle.paper.specs.Strokes.{rectMap}
+use Rattle.laws.specs.Bytes.{placedByte, glyphColumn, tallByte, reversedByte, mixedByte}
+use Rattle.cells.specs.declared.Tall.{Tall}
+use Rattle.cells.specs.declared.Walk.{Walk}
+
+-- a column repeated downwards
+abbrev pub tallOf : ℕ → ℕ → Tall
+tallOf down v = record { upper = tallByte down 0 v; lower = tallByte down 1 v }
+
+-- both rows of a column, reversed if the style says so
+abbrev pub inkOf : Style → Tall → Tall
+inkOf y t = record { upper = reversedByte y (t .upper); lower = reversedByte y (t .lower) }
+
+-- column k of a code's cell before it is repeated across, the cursor on a row of memory
+unfoldable pub inkColumn : List ℕ → ℕ → ℕ → Style → ℕ → ℕ → Tall
+inkColumn font code w y row k = inkOf y (tallOf (y .down) (placedByte row (glyphColumn font code w k)))
+
+-- a walk one column on: the column at hand once more, or the next after it was drawn as often as it is repeated
+unfoldable pub nextOf : List ℕ → ℕ → ℕ → Style → ℕ → Walk → Walk
+nextOf font code w y row s =
+    cond (eqb (s .times) (y .across))
+    (record { column = inkColumn font code w y row (s .index + 1); index = s .index + 1; times = 1 })
+    (record { column = s .column; index = s .index; times = s .times + 1 })
+
+-- the byte of a column on one of its rows
+abbrev pub atRow : Tall → ℕ → ℕ
+atRow t r = cond (eqb r 0) (t .upper) (t .lower)
+
+-- a byte mixed into memory
+unfoldable pub mixedAt : Geometry → Style → ℕ → ℕ → ℕ → List ℕ → List ℕ
+mixedAt g y x top v m = rectMap g x top 1 1 (λ j r b. mixedByte y v b) m
+
+-- a column mixed into memory
+unfoldable pub mixedColumn : Geometry → Style → ℕ → ℕ → ℕ → Tall → List ℕ → List ℕ
+mixedColumn g y x top height t m = rectMap g x top 1 height (λ j r b. mixedByte y (atRow t r) b) m
