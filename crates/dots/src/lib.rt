@@ -216,3 +216,15 @@ pub fn copy_row(g: Geometry, mem: &[u8], glass: &mut [u8], y: usize, p: Span) ->
     }
     moved
 }
+
+// Copies each span's visible columns to the glass. The number of bytes copied.
+pub fn refresh(g: Geometry, mem: &[u8], glass: &mut [u8], spans: [Span; 2]) -> usize
+    requires { ⌜ (2 ≤ g .rows) × Shows g (now mem) (now glass) ⌝ }
+    ensures { λ n. ⌜ (now (glass .exit) ≡ refreshed g (now (mem .entry)) spans (now (glass .entry))) × (n ≡ shownAll g spans) ⌝ }
+{
+    let mut moved = 0;
+    for y in 0..2 {
+        moved += copy_row(g, mem, glass, y, spans[y]);
+    }
+    moved
+}
