@@ -66,31 +66,44 @@ take-past ps y = List·getD-eq-default (take y ps) noSpan {n = y} (omega (arith,
 
 -- ---- refresh
 
+-- the span of an address's row holds its column
+module _ (g : Geometry) (ps : List Span) (a : ℕ) where
+  abbrev pub covered : Bool
+  covered = spanHolds (getD ps (rowOf g a) noSpan) (columnOf g a)
+
+  abbrev pub Covered : Type 0
+  Covered = Holds (getD ps (rowOf g a) noSpan) (columnOf g a)
+
+  pub covered-facts : T covered → Covered
+  covered-facts = span-facts (getD ps (rowOf g a) noSpan) (columnOf g a)
+
+  pub covered-test : Covered → T covered
+  covered-test = span-test (getD ps (rowOf g a) noSpan) (columnOf g a)
+
 module _ (g : Geometry) (m : List ℕ) (ps : List Span) (glass : List ℕ) where
   pub refreshed-length : length (refreshed g m ps glass) ≡ length glass
   unfolding refreshed
   refreshed-length = length-each _ glass
 
-  -- a byte that its row's span holds is memory's; any other is as it was
-  pub refreshed-in : (a : ℕ) → a < length glass → Holds (getD ps (rowOf g a) noSpan) (columnOf g a) → getD (refreshed g m ps glass) a 0 ≡ getD m a 0
+  -- a byte that a span holds is memory's
+  pub refreshed-in : (a : ℕ) → a < length glass → Covered g ps a → getD (refreshed g m ps glass) a 0 ≡ getD m a 0
   unfolding refreshed
-  refreshed-in a l h = getD-each _ glass a l ∙ cond-yes (spanHolds (getD ps (rowOf g a) noSpan) (columnOf g a)) _ _ (span-test _ _ h)
+  refreshed-in a l h = getD-each _ glass a l ∙ cond-yes (covered g ps a) _ _ (covered-test g ps a h)
 
-  pub refreshed-out : (a : ℕ) → a < length glass → (Holds (getD ps (rowOf g a) noSpan) (columnOf g a) → ⊥) → getD (refreshed g m ps glass) a 0 ≡ getD glass a 0
+  -- any other is as it was
+  pub refreshed-out : (a : ℕ) → a < length glass → (Covered g ps a → ⊥) → getD (refreshed g m ps glass) a 0 ≡ getD glass a 0
   unfolding refreshed
-  refreshed-out a l o = getD-each _ glass a l ∙ cond-no (spanHolds (getD ps (rowOf g a) noSpan) (columnOf g a)) _ _ (λ t. o (span-facts _ _ t))
+  refreshed-out a l o = getD-each _ glass a l ∙ cond-no (covered g ps a) _ _ (λ t. o (covered-facts g ps a t))
 
   -- these say all
   pub refreshed-by : (l : List ℕ) → length l ≡ length glass
-      → ((a : ℕ) → a < length glass → Holds (getD ps (rowOf g a) noSpan) (columnOf g a) → getD l a 0 ≡ getD m a 0)
-      → ((a : ℕ) → a < length glass → (Holds (getD ps (rowOf g a) noSpan) (columnOf g a) → ⊥) → getD l a 0 ≡ getD glass a 0)
-      → l ≡ refreshed g m ps glass
+      → ((a : ℕ) → a < length glass → Covered g ps a → getD l a 0 ≡ getD m a 0)
+      → ((a : ℕ) → a < length glass → (Covered g ps a → ⊥) → getD l a 0 ≡ getD glass a 0) → l ≡ refreshed g m ps glass
   unfolding refreshed
   refreshed-by l e inside outside =
       each-by _ glass l e
-      (λ a k. test-cases (spanHolds (getD ps (rowOf g a) noSpan) (columnOf g a))
-      (λ t. inside a k (span-facts _ _ t) ∙ sym (cond-yes (spanHolds (getD ps (rowOf g a) noSpan) (columnOf g a)) _ _ t))
-      (λ t. outside a k (λ h. t (span-test _ _ h)) ∙ sym (cond-no (spanHolds (getD ps (rowOf g a) noSpan) (columnOf g a)) _ _ t)))
+      (λ a k. test-cases (covered g ps a) (λ t. inside a k (covered-facts g ps a t) ∙ sym (cond-yes (covered g ps a) _ _ t))
+      (λ t. outside a k (λ h. t (covered-test g ps a h)) ∙ sym (cond-no (covered g ps a) _ _ t)))
 
 -- no span, no change
 pub refreshed-none : (g : Geometry) (m glass : List ℕ) → glass ≡ refreshed g m [] glass
