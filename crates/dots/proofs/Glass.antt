@@ -1,8 +1,8 @@
 -- The glass: what a refresh makes of it, row by row. Assumes nothing.
-use mathlib.Core.Path.{_≡_, refl, sym, ap, subst, _∙_}
-use mathlib.Core.Bool.{Bool, true, false, cond, _&&_}
+use mathlib.Core.Path.{_≡_, refl, sym, ap, _∙_}
+use mathlib.Core.Bool.{Bool}
 use mathlib.Core.List.{List, [], _∷_, _++_}
-use Prim.Native.Nat.{ℕ, zero, suc, _+_, _*_, _-_, _/_, _%_, _<_, _≤_, min}
+use Prim.Native.Nat.{ℕ, zero, suc, _+_, _<_, _≤_}
 use native.Mathlib.Nat.{add-assoc, add-zero, zero-add, le-mul-of-pos-right, mul-comm}
 use native.Mathlib.Numerals.{add-one}
 use native.Mathlib.Omega.{arith}
@@ -11,14 +11,13 @@ use lib.ListN.{length, getD, take, length-take, List·getD-eq-default}
 use lib.Seq.{take-suc, getD-take}
 use Rattle.paper.specs.declared.Geometry.{Geometry}
 use Rattle.paper.specs.declared.Span.{Span}
-use Rattle.paper.specs.Panel.{address, columnOf, rowOf, glassLength}
-use Rattle.paper.specs.Strokes.{rectMap, noSpan, spanHolds, refreshed, shown, shownAll}
-use Rattle.dots.specs.Rectangles.{Fits}
+use Rattle.paper.specs.Panel.{columnOf, rowOf, glassLength}
+use Rattle.paper.specs.Strokes.{noSpan, spanHolds, refreshed, shown, shownAll}
 use Rattle.dots.specs.Glass.{Shows, copied}
 use Rattle.dots.proofs.Tests.{test-cases, eq-cases, cond-yes, cond-no, and-i, and-0, and-1}
 use Rattle.dots.proofs.Addresses.{at-place, column-lt}
 use Rattle.dots.proofs.Each.{length-each, getD-each, each-by}
-use Rattle.dots.proofs.Rects.{InRect, rect-cases, rect-length, rect-in, rect-out}
+use Rattle.dots.proofs.Rects.{rect-length, rect-in, rect-out}
 
 -- ---- the columns of a span
 

@@ -1,19 +1,18 @@
 -- A rectangle of a memory changed: `rectMap` of the paper. Assumes nothing.
 use mathlib.Core.Path.{_≡_, refl, sym, ap, ap₂, subst, subst₂, _∙_}
-use mathlib.Core.Bool.{Bool, true, false, cond}
 use mathlib.Core.List.{List}
-use Prim.Native.Nat.{ℕ, _+_, _*_, _-_, _/_, _%_, _<_, _≤_}
+use Prim.Native.Nat.{ℕ, _+_, _-_, _<_, _≤_}
 use native.Mathlib.Nat.{le-antisymm}
 use native.Mathlib.Omega.{arith}
 use lib.Dec.{T}
 use lib.ListN.{length, getD, set, length-set}
 use lib.Seq.{getD-set-same, getD-set-other}
 use Rattle.paper.specs.declared.Geometry.{Geometry}
-use Rattle.paper.specs.Panel.{address, columnOf, rowOf, each}
+use Rattle.paper.specs.Panel.{address, columnOf, rowOf}
 use Rattle.paper.specs.Strokes.{among, inRect, rectMap}
 use Rattle.dots.specs.Rectangles.{stored}
-use Rattle.dots.proofs.Tests.{test-cases, lt-cases, eq-cases, cond-yes, cond-no, cond-cases, and-i, and-0, and-1, among-facts, among-test}
-use Rattle.dots.proofs.Addresses.{column-at, row-at, address-lt, at-place}
+use Rattle.dots.proofs.Tests.{test-cases, lt-cases, cond-yes, cond-no, cond-cases, and-i, and-0, and-1, among-facts, among-test}
+use Rattle.dots.proofs.Addresses.{column-at, row-at, at-place}
 use Rattle.dots.proofs.Each.{length-each, getD-each, each-by, Bytes, each-bytes}
 
 -- address a lies in the rectangle

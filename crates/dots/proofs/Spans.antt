@@ -1,11 +1,11 @@
 -- Spans: what a rectangle's growth makes of them. Assumes nothing.
 use mathlib.Core.Path.{_≡_, refl, sym, ap, ap₂, _∙_}
-use mathlib.Core.Bool.{Bool, true, false, cond, _&&_, _||_, and-false, or-true}
+use mathlib.Core.Bool.{true, _&&_, and-false, or-true}
 use mathlib.Core.List.{List, [], _∷_, _++_}
 use Prim.Native.Nat.{ℕ, zero, suc, _+_, _<_, _≤_, min, max}
 use native.Mathlib.Nat.{add-zero, zero-add, add-suc, suc-add, le-of-suc-le-suc, not-suc-le-zero}
 use native.Mathlib.Omega.{arith}
-use lib.Dec.{leb, ltb, eqb, ltb→lt}
+use lib.Dec.{ltb, eqb, ltb→lt}
 use lib.ListN.{length, getD}
 use borrow.Author.Tests.{lt-ltb, le-leb, ne-eqb, leb-true}
 use Rattle.paper.specs.declared.Geometry.{Geometry}

@@ -4,7 +4,7 @@
 use paper::Geometry;
 use paper::Span;
 ghost use mathlib.Core.Path.{_≡_};
-ghost use Prim.Native.Nat.{_+_, _*_, _≤_, _<_, min, max};
+ghost use Prim.Native.Nat.{_+_, _≤_, _<_, min, max};
 ghost use Rattle.paper.specs.Panel.{memoryLength, address};
 ghost use Rattle.paper.specs.Strokes.{grown, shown, shownAll, refreshed};
 ghost use Rattle.dots.specs.Rectangles.{Fits, Within, cleared, pulled, scrolledUp, movedLeft, stored};

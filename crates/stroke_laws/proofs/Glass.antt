@@ -1,16 +1,16 @@
 -- The glass stays in step: strokes with their growth keep it so, and a refresh brings it in step everywhere. Assumes nothing.
-use mathlib.Core.Path.{_≡_, refl, sym, ap, subst, _∙_}
-use mathlib.Core.Bool.{Bool, true, false, cond, _&&_}
+use mathlib.Core.Path.{_≡_, sym, _∙_}
+use mathlib.Core.Bool.{false, _&&_}
 use mathlib.Core.List.{List, [], _∷_}
-use Prim.Native.Nat.{ℕ, _+_, _*_, _-_, _/_, _%_, _<_, _≤_, min, max}
+use Prim.Native.Nat.{ℕ, _+_, _<_, _≤_}
 use native.Mathlib.Omega.{arith}
-use lib.Dec.{T, ltb, ltb→lt, lt→ltb, eqb, eqb→eq}
+use lib.Dec.{ltb, lt→ltb, eqb→eq}
 use lib.ListN.{length, getD, take}
 use lib.Seq.{ext-getD, length-take-le, getD-take}
 use Rattle.paper.specs.declared.Geometry.{Geometry}
 use Rattle.paper.specs.declared.Span.{Span}
 use Rattle.paper.specs.Panel.{columnOf, rowOf, glassLength}
-use Rattle.paper.specs.Strokes.{Stroke, among, applied, applyAll, noSpan, spanOf, isNothing, spanHolds, grown, grownBy, marked, markAll, refreshed}
+use Rattle.paper.specs.Strokes.{Stroke, among, applied, applyAll, noSpan, isNothing, grown, grownBy, marked, markAll, refreshed}
 use Rattle.paper.specs.Cells.{eraseStroke}
 use Rattle.dots.proofs.Tests.{test-cases, is-false, not-both, cond-yes, cond-cases, and-i, among-test}
 use Rattle.dots.proofs.Addresses.{column-lt, row-lt}

@@ -5,7 +5,7 @@ use borrow.Author.Needs.{needs}
 use native.Mathlib.Omega.{arith}
 use lib.ListN.{length, getD, length-set}
 use Rattle.paper.specs.Panel.{address, glassLength}
-use Rattle.paper.specs.Strokes.{rectMap, shown}
+use Rattle.paper.specs.Strokes.{rectMap}
 use Rattle.dots.specs.Glass.{copied}
 use Rattle.dots.proofs.Addresses.{address-lt}
 use Rattle.dots.proofs.Rects.{rect-none, row-turn, row-end}

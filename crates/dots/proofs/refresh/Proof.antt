@@ -1,13 +1,10 @@
 -- `dots::refresh` meets its contract. The loop's invariant: the glass and the count are those of the first y spans. Assumes nothing.
 use mathlib.Core.Path.{_≡_, refl, ap, _∙_}
-use mathlib.Core.List.{List}
 use Prim.Native.Nat.{ℕ, _≤_, _-_, _+_, _*_}
 use borrow.Author.Needs.{needs}
-use native.Mathlib.Numerals.{add-one}
 use native.Mathlib.Omega.{arith}
 use lib.ListN.{length, getD, take}
 use lib.Seq.{take-all}
-use Rattle.paper.specs.declared.Span.{Span}
 use Rattle.paper.specs.Strokes.{noSpan, refreshed, shownAll}
 use Rattle.dots.proofs.Glass.{refreshed-none, refreshed-turn, shown-turn, shown-le, visible-small}
 use Rattle.dots.proofs.refresh.Statement.{statement}
