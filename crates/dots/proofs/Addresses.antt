@@ -1,6 +1,6 @@
 -- The address of a place, and the place of an address. The only facts here that are not linear. Assumes nothing.
 use mathlib.Core.Path.{_≡_, sym, ap, ap₂, _∙_}
-use Prim.Native.Nat.{ℕ, zero, suc, _+_, _*_, _/_, _%_, _<_, _≤_}
+use Prim.Native.Nat.{ℕ, zero, suc, _+_, _*_, _<_}
 use native.Mathlib.Nat.{add-zero, div-add-mod, mul-add-div, mul-add-mod-self-left, mod-eq-of-lt, div-eq-of-lt, mod-lt, mul-le-mul-left, lt-of-mul-lt-mul-left}
 use native.Mathlib.Omega.{arith}
 use Rattle.paper.specs.declared.Geometry.{Geometry}

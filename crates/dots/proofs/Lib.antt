@@ -6,3 +6,4 @@ pub mod Rects
 pub mod Pulls
 pub mod Spans
 pub mod Glass
+pub mod Strokes

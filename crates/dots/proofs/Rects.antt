@@ -1,19 +1,18 @@
 -- A rectangle of a memory changed: `rectMap` of the paper. Assumes nothing.
 use mathlib.Core.Path.{_≡_, refl, sym, ap, ap₂, subst, subst₂, _∙_}
-use mathlib.Core.Bool.{Bool, true, false, cond}
 use mathlib.Core.List.{List}
-use Prim.Native.Nat.{ℕ, _+_, _*_, _-_, _/_, _%_, _<_, _≤_}
+use Prim.Native.Nat.{ℕ, _+_, _-_, _<_, _≤_}
 use native.Mathlib.Nat.{le-antisymm}
 use native.Mathlib.Omega.{arith}
 use lib.Dec.{T}
 use lib.ListN.{length, getD, set, length-set}
 use lib.Seq.{getD-set-same, getD-set-other}
 use Rattle.paper.specs.declared.Geometry.{Geometry}
-use Rattle.paper.specs.Panel.{address, columnOf, rowOf, each}
+use Rattle.paper.specs.Panel.{address, columnOf, rowOf}
 use Rattle.paper.specs.Strokes.{among, inRect, rectMap}
 use Rattle.dots.specs.Rectangles.{stored}
-use Rattle.dots.proofs.Tests.{test-cases, lt-cases, eq-cases, cond-yes, cond-no, and-i, and-0, and-1, among-facts, among-test}
-use Rattle.dots.proofs.Addresses.{column-at, row-at, address-lt, at-place}
+use Rattle.dots.proofs.Tests.{test-cases, lt-cases, cond-yes, cond-no, cond-cases, and-i, and-0, and-1, among-facts, among-test}
+use Rattle.dots.proofs.Addresses.{column-at, row-at, at-place}
 use Rattle.dots.proofs.Each.{length-each, getD-each, each-by, Bytes, each-bytes}
 
 -- address a lies in the rectangle
@@ -96,11 +95,8 @@ rect-none g left top w h f m none = rect-by g left top w h f m m refl (λ a l i.
 pub rect-bytes : (g : Geometry) (left top w h : ℕ) (f : ℕ → ℕ → ℕ → ℕ) (m : List ℕ)
     → ((j r b : ℕ) → b < 256 → f j r b < 256) → Bytes m → Bytes (rectMap g left top w h f m)
 unfolding rectMap
-rect-bytes g left top w h f m hf hm = each-bytes _ m (λ a b hb. go (inRect g left top w h a) a b hb) hm
-  where
-    go : (t : Bool) (a b : ℕ) → b < 256 → cond t (f (columnOf g a - left) (rowOf g a - top) b) b < 256
-    go true a b hb = hf _ _ b hb
-    go false a b hb = hb
+rect-bytes g left top w h f m hf hm =
+    each-bytes _ m (λ a b hb. cond-cases (λ (v : ℕ). v < 256) (inRect g left top w h a) (λ t. hf _ _ b hb) (λ t. hb)) hm
 
 -- a rectangle, then another apart from it, as the one rectangle that they make up
 module _ (g : Geometry) (left top w h : ℕ) (f : ℕ → ℕ → ℕ → ℕ) (left′ top′ w′ h′ : ℕ) (f′ : ℕ → ℕ → ℕ → ℕ) (left″ top″ w″ h″ : ℕ) (k : ℕ → ℕ → ℕ → ℕ) (m : List ℕ) where

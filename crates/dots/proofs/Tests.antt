@@ -1,6 +1,6 @@
 -- Tests and the facts that they stand for, and what `cond` picks by them. Assumes nothing.
-use mathlib.Core.Path.{_≡_, refl, sym, _∙_}
-use mathlib.Core.Bool.{Bool, true, false, cond, _&&_}
+use mathlib.Core.Path.{_≡_, refl, sym}
+use mathlib.Core.Bool.{Bool, true, false, cond, _&&_, false≢true}
 use Prim.Native.Nat.{ℕ, _+_, _<_, _≤_}
 use lib.Dec.{T, leb, ltb, eqb, leb→le, ltb→lt, le→leb, lt→ltb}
 use borrow.Author.Tests.{ltb-true, ltb-false, eqb-true, eqb-false}
@@ -26,6 +26,20 @@ eq-cases a b {P} same other = go (eqb a b) refl
     go true e = same (eqb-true a b e)
     go false e = other (eqb-false a b e)
 
+-- ---- tests as equations
+
+pub is-true : (t : Bool) → T t → t ≡ true
+is-true true h = refl
+is-true false h = absurd h
+
+pub is-false : (t : Bool) → (T t → ⊥) → t ≡ false
+is-false true h = absurd (h tt)
+is-false false h = refl
+
+pub not-both : (t : Bool) → t ≡ false → T t → ⊥
+not-both true e h = absurd (false≢true (sym e))
+not-both false e h = h
+
 -- ---- what `cond` picks
 
 module _ {A : Type 0} where
@@ -37,7 +51,20 @@ module _ {A : Type 0} where
   cond-no true u v h = absurd (h tt)
   cond-no false u v h = refl
 
+  -- what holds of either, each under its test, holds of what is picked
+  pub cond-cases : (P : A → Type 0) (t : Bool) {u v : A} → (T t → P u) → ((T t → ⊥) → P v) → P (cond t u v)
+  cond-cases P true yes-then no-then = yes-then tt
+  cond-cases P false yes-then no-then = no-then (λ z. z)
+
 -- ---- both of two tests
+
+pub and-true : (p q : Bool) → p ≡ true → q ≡ true → (p && q) ≡ true
+and-true true q h k = k
+and-true false q h k = h
+
+pub and-parts : (p q : Bool) → (p && q) ≡ true → (p ≡ true) × (q ≡ true)
+and-parts true q h = (refl, h)
+and-parts false q h = absurd (false≢true h)
 
 pub and-i : (p q : Bool) → T p → T q → T (p && q)
 and-i true q h k = k

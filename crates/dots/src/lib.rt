@@ -4,7 +4,8 @@
 use paper::Geometry;
 use paper::Span;
 ghost use mathlib.Core.Path.{_≡_};
-ghost use Prim.Native.Nat.{_+_, _*_, _≤_, _<_, min, max};
+ghost use Prim.Native.Nat.{_+_, _≤_, _<_, min, max};
+ghost use lib.ListN.{length, getD, set};
 ghost use Rattle.paper.specs.Panel.{memoryLength, address};
 ghost use Rattle.paper.specs.Strokes.{grown, shown, shownAll, refreshed};
 ghost use Rattle.dots.specs.Rectangles.{Fits, Within, cleared, pulled, scrolledUp, movedLeft, stored};
@@ -201,7 +202,16 @@ pub fn shown_of(g: Geometry, p: Span) -> usize
 
 // ---- the glass
 
-// Copies a span's visible columns of row y to the glass. The number of bytes copied, counted one by one.
+// Copies one byte to the glass, whatever stands there. What is counted is what is copied: one byte.
+fn copy_byte(mem: &[u8], glass: &mut [u8], a: usize) -> usize
+    requires { ⌜ (a < length (now mem)) × (a < length (now glass)) ⌝ }
+    ensures { λ n. ⌜ (now (glass .exit) ≡ set (now (glass .entry)) a (getD (now (mem .entry)) a 0)) × (n ≡ 1) ⌝ }
+{
+    glass[a] = mem[a];
+    1
+}
+
+// Copies a span's visible columns of row y to the glass. The number of bytes copied.
 pub fn copy_row(g: Geometry, mem: &[u8], glass: &mut [u8], y: usize, p: Span) -> usize
     requires { ⌜ (y < g .rows) × Shows g (now mem) (now glass) ⌝ }
     ensures { λ n. ⌜ (now (glass .exit) ≡ copied g (now (mem .entry)) y p (now (glass .entry))) × (n ≡ shown g p) ⌝ }
@@ -211,8 +221,19 @@ pub fn copy_row(g: Geometry, mem: &[u8], glass: &mut [u8], y: usize, p: Span) ->
     let mut moved = 0;
     for j in 0..width {
         let a = at(g, first + j, y);
-        glass[a] = mem[a];
-        moved += 1;
+        moved += copy_byte(mem, glass, a);
+    }
+    moved
+}
+
+// Copies each span's visible columns to the glass. The number of bytes copied.
+pub fn refresh(g: Geometry, mem: &[u8], glass: &mut [u8], spans: [Span; 2]) -> usize
+    requires { ⌜ (2 ≤ g .rows) × Shows g (now mem) (now glass) ⌝ }
+    ensures { λ n. ⌜ (now (glass .exit) ≡ refreshed g (now (mem .entry)) spans (now (glass .entry))) × (n ≡ shownAll g spans) ⌝ }
+{
+    let mut moved = 0;
+    for y in 0..2 {
+        moved += copy_row(g, mem, glass, y, spans[y]);
     }
     moved
 }

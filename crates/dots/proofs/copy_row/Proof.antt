@@ -1,11 +1,11 @@
 -- `dots::copy_row` meets its contract. The loop's invariant: the first j columns are copied, and j is the count. Assumes nothing.
-use mathlib.Core.Path.{_≡_, refl, ap}
+use mathlib.Core.Path.{_≡_, refl, ap, _∙_}
 use Prim.Native.Nat.{ℕ, _≤_, _<_, _+_, _-_}
 use borrow.Author.Needs.{needs}
 use native.Mathlib.Omega.{arith}
-use lib.ListN.{length, getD, length-set}
+use lib.ListN.{length, getD}
 use Rattle.paper.specs.Panel.{address, glassLength}
-use Rattle.paper.specs.Strokes.{rectMap, shown}
+use Rattle.paper.specs.Strokes.{rectMap}
 use Rattle.dots.specs.Glass.{copied}
 use Rattle.dots.proofs.Addresses.{address-lt}
 use Rattle.dots.proofs.Rects.{rect-none, row-turn, row-end}
@@ -44,16 +44,20 @@ add-at c = omega (arith, visible c)
 at-requires : tie.Need-at-requires Inv-loop μ-loop
 at-requires c κs = omega (arith, visible c)
 
-slice-write-glass : tie.Need-slice-write-glass Inv-loop μ-loop
-slice-write-glass c = omega (arith, visible (c .before .before))
+copy-byte-requires : tie.Need-copy-byte-requires Inv-loop μ-loop
+copy-byte-requires c κs = omega (arith, visible (c .before .before))
 
 loop-again : tie.Need-loop-again Inv-loop μ-loop
 loop-again c =
-    let start = c .before .before .before .before .before .before .before .before in (
+    let start = c .before .before .before .before .before .before .before .before .before .before .before in
+    let head = c .before .before .before .before .before .before .loop in
+    let seen = visible (c .before .before .before .before .before) in (
       omega arith,
-      omega arith,
-      simp length-set (omega arith),
-      row-turn _ _ _ _ _ _ _ _ _ (c .before .at .ensures .0) (c .before .before .before .loop .inv .3) (start .pre .0) (slice-write-glass c) (ap (λ (a : ℕ). getD (start .args .mem .now) a 0) (omega arith)),
+      omega (arith, c .before .before .copy-byte .ensures .1),
+      omega (arith, c .before .before .copy-byte .kept .1 .0),
+      c .before .before .copy-byte .ensures .0
+          ∙ row-turn _ _ _ _ _ _ _ _ _ (c .before .before .before .before .at .ensures .0) (head .inv .3) (start .pre .0) (omega arith)
+          (ap (λ (a : ℕ). getD (start .args .mem .now) a 0) (omega arith)),
     )
 
 returns : tie.Need-returns Inv-loop μ-loop
@@ -72,8 +76,7 @@ copy-row-spec =
     loop-holds
     add-at
     at-requires
-    (λ c. omega arith)
-    slice-write-glass
+    copy-byte-requires
     (λ c. omega arith)
     (λ c. omega arith)
     (λ c. omega arith)

@@ -1,6 +1,6 @@
 -- `dots::mark` meets its contract. Assumes nothing.
 use mathlib.Core.Path.{ap₂, _∙_}
-use mathlib.Core.List.{List, [], _∷_}
+use mathlib.Core.List.{[], _∷_}
 use Rattle.paper.specs.declared.Span.{Span}
 use borrow.Author.Needs.{needs}
 use Rattle.dots.proofs.Spans.{mark-two}

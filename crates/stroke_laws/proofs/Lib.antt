@@ -1,0 +1,3 @@
+-- What strokes keep.
+pub mod Strokes
+pub mod Glass
