@@ -13,10 +13,8 @@ use paper::Style;
 use paper::View;
 use paper::Window;
 ghost use mathlib.Core.Path.{_≡_};
-ghost use mathlib.Core.Bool.{true};
 ghost use Prim.Native.Nat.{_+_, _≤_, _<_};
-ghost use Rattle.paper.specs.Reading.{between};
-ghost use Rattle.paper.specs.Settings.{initialSettings, topLeft, noWindow, initialState, inDomain, inEnlargement, enlarged, withSetting, windowAt, isDefined, selectable, fits, newWindow, defined, cancelled, cursorOf, atCursor, inMode, insideWindow, baseView, windowView, viewOf, cursorIn, withView};
+ghost use Rattle.paper.specs.Settings.{initialSettings, topLeft, noWindow, initialState, inDomain, inEnlargement, enlarged, withSetting, windowAt, selectable, fits, newWindow, defined, cancelled, cursorOf, atCursor, inMode, insideWindow, baseView, windowView, viewOf, withView};
 ghost use Rattle.paper.specs.Carry.{isHeld, notCarriedValue, isWrite};
 
 // ---- the initial state
@@ -181,6 +179,15 @@ pub fn is_held(h: Hold) -> bool
     }
 }
 
+// User window k (1 to 4).
+fn window_at(windows: [Window; 4], k: u8) -> Window
+    requires { ⌜ (1 ≤ k) × (k ≤ 4) ⌝ }
+    ensures { λ r. ⌜ r ≡ windowAt windows k ⌝ }
+{
+    let i = (k - 1) as usize;
+    windows[i]
+}
+
 // Whether k names the base window or a defined user window.
 pub fn is_selectable(windows: [Window; 4], k: u8) -> bool
     ensures { λ r. ⌜ r ≡ selectable windows k ⌝ }
@@ -191,8 +198,7 @@ pub fn is_selectable(windows: [Window; 4], k: u8) -> bool
     if 4 < k {
         return false;
     }
-    let i = (k - 1) as usize;
-    let w = windows[i];
+    let w = window_at(windows, k);
     0 < w.width
 }
 
@@ -236,9 +242,10 @@ pub fn cancel(s: State, k: u8) -> State
     requires { ⌜ (1 ≤ k) × (k ≤ 4) ⌝ }
     ensures { λ r. ⌜ r ≡ cancelled s k ⌝ }
 {
-    let t = with_window(s, k, no_window());
+    let mut t = with_window(s, k, no_window());
     if s.selected == k {
-        return State { selected: 0, ..t };
+        t.selected = 0;
+        return t;
     }
     t
 }
@@ -254,8 +261,8 @@ pub fn cursor_of(s: State) -> Cursor
     if k == 0 {
         return s.base;
     }
-    let i = (k - 1) as usize;
-    let w = s.windows[i];
+    let windows = s.windows;
+    let w = window_at(windows, k);
     w.cursor
 }
 
@@ -265,16 +272,14 @@ pub fn at_cursor(s: State, c: Cursor) -> State
     ensures { λ r. ⌜ r ≡ atCursor s c ⌝ }
 {
     let k = s.selected;
-    let mut t = s;
     if k == 0 {
+        let mut t = s;
         t.base = c;
         return t;
     }
-    let i = (k - 1) as usize;
-    let mut w = t.windows[i];
-    w.cursor = c;
-    t.windows[i] = w;
-    t
+    let windows = s.windows;
+    let w = window_at(windows, k);
+    with_window(s, k, Window { cursor: c, ..w })
 }
 
 // The current window in another mode.
@@ -295,8 +300,8 @@ pub fn inside_window(g: Geometry, s: State, x: u16, y: u16) -> bool
     if k == 0 {
         return ((x as usize) < g.columns) & ((y as usize) < g.rows);
     }
-    let i = (k - 1) as usize;
-    let w = s.windows[i];
+    let windows = s.windows;
+    let w = window_at(windows, k);
     (x < w.width) & (y < w.height)
 }
 
@@ -308,6 +313,7 @@ fn base_view(g: Geometry, write: u8, c: Cursor) -> View
     ensures { λ r. ⌜ r ≡ baseView g write c ⌝ }
 {
     let x = c.x as usize;
+    let visible = g.visible;
     let whole = View {
         left: 0,
         top: 0,
@@ -320,16 +326,16 @@ fn base_view(g: Geometry, write: u8, c: Cursor) -> View
     if write == 1 {
         return whole;
     }
-    if x < g.visible {
+    if x < visible {
         return View {
-            width: g.visible,
+            width: visible,
             ..whole
         };
     }
     View {
-        left: g.visible,
-        width: g.columns - g.visible,
-        x: x - g.visible,
+        left: visible,
+        width: g.columns - visible,
+        x: x - visible,
         ..whole
     }
 }
@@ -361,8 +367,8 @@ pub fn view_of(g: Geometry, s: State) -> View
         let c = s.base;
         return base_view(g, v.write, c);
     }
-    let i = (k - 1) as usize;
-    window_view(s.windows[i])
+    let windows = s.windows;
+    window_view(window_at(windows, k))
 }
 
 // The state with the current window's cursor where a view has it.

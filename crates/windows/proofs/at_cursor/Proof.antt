@@ -11,7 +11,7 @@ returns c = rw (eq-eqb _ _ (c .if1 .taken))
 
 returns-2 : tie.Need-returns-2
 unfolding atCursor
-returns-2 c = rw (ne-eqb _ _ (c .before .if1 .left))
+returns-2 c = rw (ne-eqb _ _ (c .before .before .before .if1 .left)) (rw (c .before .window-at .ensures) at (c .with-window .ensures))
 
 pub at-cursor-spec : {M : Type 1} → statement M
-at-cursor-spec = tie.close (tie.spec returns (λ c. search needs) (λ c. search needs) (λ c. search needs) (λ c. search needs) (λ c. search needs) (λ c. search needs) returns-2)
+at-cursor-spec = tie.close (tie.spec returns (λ c κs. search needs) (λ c κs. search needs) returns-2)

@@ -7,7 +7,7 @@ use Rattle.windows.proofs.cancel.Tie as tie
 
 returns : tie.Need-returns
 unfolding cancelled
-returns c = rw (eq-eqb _ _ (c .before .before .before .before .if1 .taken), c .before .before .before .before .before .before .with-window .ensures, c .before .before .before .before .before .before .before .no-window .ensures)
+returns c = rw (eq-eqb _ _ (c .if1 .taken), c .before .before .with-window .ensures, c .before .before .before .no-window .ensures)
 
 returns-2 : tie.Need-returns-2
 unfolding cancelled
