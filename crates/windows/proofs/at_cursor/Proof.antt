@@ -1,0 +1,17 @@
+-- `windows::at_cursor` meets its contract. Assumes nothing.
+use borrow.Author.Needs.{needs}
+use borrow.Author.Tests.{eq-eqb, ne-eqb}
+use Rattle.paper.specs.Settings.{atCursor}
+use Rattle.windows.proofs.at_cursor.Statement.{statement}
+use Rattle.windows.proofs.at_cursor.Tie as tie
+
+returns : tie.Need-returns
+unfolding atCursor
+returns c = rw (eq-eqb _ _ (c .if1 .taken))
+
+returns-2 : tie.Need-returns-2
+unfolding atCursor
+returns-2 c = rw (ne-eqb _ _ (c .before .before .before .if1 .left)) (rw (c .before .window-at .ensures) at (c .with-window .ensures))
+
+pub at-cursor-spec : {M : Type 1} → statement M
+at-cursor-spec = tie.close (tie.spec returns (λ c κs. search needs) (λ c κs. search needs) returns-2)

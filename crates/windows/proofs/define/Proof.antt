@@ -1,0 +1,11 @@
+-- `windows::define` meets its contract. Assumes nothing.
+use borrow.Author.Needs.{needs}
+use Rattle.paper.specs.Settings.{defined}
+use Rattle.windows.proofs.define.Statement.{statement}
+use Rattle.windows.proofs.define.Tie as tie
+
+returns : tie.Need-returns
+returns c = rw (c .before .top-left .ensures) at (c .with-window .ensures)
+
+pub define-spec : {M : Type 1} → statement M
+define-spec = tie.close (tie.spec (λ c κs. search needs) (λ c κs. search needs) returns)

@@ -1,0 +1,12 @@
+-- `windows::in_enlargement` meets its contract. Assumes nothing.
+use mathlib.Core.Path.{refl}
+use Rattle.paper.specs.Settings.{inEnlargement}
+use Rattle.windows.proofs.in_enlargement.Statement.{statement}
+use Rattle.windows.proofs.in_enlargement.Tie as tie
+
+returns : tie.Need-returns
+unfolding inEnlargement
+returns c = refl
+
+pub in-enlargement-spec : {M : Type 1} → statement M
+in-enlargement-spec = tie.close (tie.spec returns)

@@ -1,0 +1,12 @@
+-- `windows::in_mode` meets its contract. Assumes nothing.
+use borrow.Author.Needs.{needs}
+use Rattle.paper.specs.Settings.{inMode}
+use Rattle.windows.proofs.in_mode.Statement.{statement}
+use Rattle.windows.proofs.in_mode.Tie as tie
+
+returns : tie.Need-returns
+unfolding inMode
+returns c = rw (c .before .cursor-of .ensures) at (c .at-cursor .ensures)
+
+pub in-mode-spec : {M : Type 1} → statement M
+in-mode-spec = tie.close (tie.spec (λ c κs. search needs) (λ c κs. search needs) returns)

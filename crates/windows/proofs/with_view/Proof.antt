@@ -1,0 +1,17 @@
+-- `windows::with_view` meets its contract. Assumes nothing.
+use borrow.Author.Needs.{needs}
+use borrow.Author.Tests.{eq-eqb, ne-eqb}
+use Rattle.paper.specs.Settings.{cursorIn}
+use Rattle.windows.proofs.with_view.Statement.{statement}
+use Rattle.windows.proofs.with_view.Tie as tie
+
+returns : tie.Need-returns
+unfolding cursorIn
+returns c = rw (eq-eqb _ _ (c .before .before .before .if1 .taken)) (c .at-cursor .ensures)
+
+returns-2 : tie.Need-returns-2
+unfolding cursorIn
+returns-2 c = rw (ne-eqb _ _ (c .before .before .before .if1 .left)) (c .at-cursor2 .ensures)
+
+pub with-view-spec : {M : Type 1} → statement M
+with-view-spec = tie.close (tie.spec (λ c. search needs) (λ c. search needs) (λ c. search needs) (λ c. search needs) (λ c κs. search needs) returns (λ c. search needs) (λ c. search needs) (λ c κs. search needs) returns-2)
