@@ -2,10 +2,10 @@
 use mathlib.Core.Path.{_≡_, refl, _∙_}
 use mathlib.Core.Bool.{Bool, true, false, cond, _&&_, not}
 use mathlib.Core.List.{List, [], _∷_, _++_}
-use Prim.Native.Nat.{ℕ, _+_, _*_, _-_, _<_, _≤_, min}
+use Prim.Native.Nat.{ℕ, _+_, _*_, _-_, _<_, _≤_}
 use native.Mathlib.Omega.{arith}
-use lib.Dec.{leb, ltb, eqb}
-use borrow.Author.Tests.{leb-true, leb-false}
+use lib.Dec.{leb, eqb}
+use borrow.Author.Tests.{leb-true}
 use Rattle.paper.specs.declared.Geometry.{Geometry}
 use Rattle.paper.specs.declared.Style.{Style}
 use Rattle.paper.specs.declared.View.{View}
@@ -165,7 +165,8 @@ module _ (g : Geometry) (v : View) (c l : ℕ) (i : Room g v c l) where
 -- ---- characters
 
 -- the all-off cell of a wrap, then HT
-pub blank-kept : (g : Geometry) (w : ℕ) (y : Style) (v : View) → Room g v (cellWidth w y) (cellHeight y) → Kept v (blankTab g w y v)
+pub blank-kept : (g : Geometry) (w : ℕ) (y : Style) (v : View) → Room g v (cellWidth w y) (cellHeight y)
+    → Kept v (blankTab g w y v)
 unfolding blankTab
 blank-kept g w y v i =
     then-kept v (writing (blankStroke w y v) v) (λ q. htOf g q (cellWidth w y) (cellHeight y))
