@@ -2,16 +2,19 @@
 use mathlib.Core.Path.{_≡_, refl, _∙_}
 use mathlib.Core.Bool.{Bool, true, false, cond, _&&_, not}
 use mathlib.Core.List.{List, [], _∷_, _++_}
-use Prim.Native.Nat.{ℕ, _+_, _*_, _-_, _<_, _≤_, min}
+use Prim.Native.Nat.{ℕ, _+_, _*_, _-_, _<_, _≤_}
 use native.Mathlib.Omega.{arith}
 use lib.Dec.{leb, ltb, eqb}
-use borrow.Author.Tests.{leb-true, leb-false}
+use borrow.Author.Tests.{leb-true, ltb-true}
 use Rattle.paper.specs.declared.Geometry.{Geometry}
 use Rattle.paper.specs.declared.Style.{Style}
 use Rattle.paper.specs.declared.View.{View}
+use Rattle.paper.specs.declared.State.{State}
 use Rattle.paper.specs.Strokes.{Rule, draw, wrapBlank, Stroke}
 use Rattle.paper.specs.Cells.{Dots, cellDot, allOff, cellWidth, cellHeight, cellStroke, drawStroke, blankStroke, upStroke, leftStroke}
 use Rattle.paper.specs.Moves.{Moved, only, writing, andThen, to, nextLine, nextLineUp, pushLeft, htOf, drawTab, blankTab, characterOf, backOf, lineDown, lineDownUp, lineFeedOf, homeOf, returnOf, clearOf}
+use Rattle.paper.specs.Carry.{imageStrokes}
+use Rattle.laws.proofs.Tests.{both-of}
 use Rattle.kept.specs.Room.{InMemory, Room, Inside, AllIn, Kept}
 
 -- what holds of both answers of a test holds of the one that it picks
@@ -95,6 +98,19 @@ module _ (v : View) where
       → Kept v (writing (cellStroke rule y c d v) v)
   cell-kept g i rule y c d = writing-kept _ (v .x) (v .y) (i .x) (i .y) (omega arith)
 
+  -- an image byte, stored or outside the range
+  pub image-inside : (s : State) (column row b : ℕ)
+      → AllIn (v .left) (v .top) (v .width) (v .height) (imageStrokes v s column row b)
+  unfolding imageStrokes
+  image-inside s column row b =
+      by-cond (AllIn (v .left) (v .top) (v .width) (v .height)) (ltb (v .x + column) (v .width) && ltb (v .y + row) (v .height))
+      (λ e.
+      let f = both-of (ltb (v .x + column) (v .width)) (ltb (v .y + row) (v .height)) e in
+      let x = ltb-true (v .x + column) (v .width) (f .0) in
+      let y = ltb-true (v .y + row) (v .height) (f .1) in
+      (omega arith, tt))
+      (λ _. tt)
+
 -- ---- moves by a cell of c columns and l rows
 
 module _ (g : Geometry) (v : View) (c l : ℕ) (i : Room g v c l) where
@@ -165,7 +181,8 @@ module _ (g : Geometry) (v : View) (c l : ℕ) (i : Room g v c l) where
 -- ---- characters
 
 -- the all-off cell of a wrap, then HT
-pub blank-kept : (g : Geometry) (w : ℕ) (y : Style) (v : View) → Room g v (cellWidth w y) (cellHeight y) → Kept v (blankTab g w y v)
+pub blank-kept : (g : Geometry) (w : ℕ) (y : Style) (v : View) → Room g v (cellWidth w y) (cellHeight y)
+    → Kept v (blankTab g w y v)
 unfolding blankTab
 blank-kept g w y v i =
     then-kept v (writing (blankStroke w y v) v) (λ q. htOf g q (cellWidth w y) (cellHeight y))

@@ -5,8 +5,8 @@ use Prim.Native.Nat.{ℕ, _+_, _<_}
 use lib.ListN.{length}
 use Rattle.paper.specs.Calls.{Feeding}
 
--- `joined` is what feeding a piece gives at once, `second` what feeding its last bytes gives after `first`: "Over pieces the counts
--- add up to those of the joined bytes", and state, memory and, unless there are no last bytes, outcome are the second's
+-- `joined` is what feeding a piece gives at once, `second` what feeding its last bytes gives after `first`: "Over pieces the
+-- counts add up to those of the joined bytes", and state, memory and, unless there are no last bytes, outcome are the second's
 pub record Joined (last : List ℕ) (first second joined : Feeding) : Type 0 where
   pub refusal : joined .answer .refusal ≡ second .answer .refusal
   pub state : joined .answer .state ≡ second .answer .state

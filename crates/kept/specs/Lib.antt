@@ -1,3 +1,4 @@
 pub mod Room
 pub mod After
+pub mod Parts
 pub mod Joined

@@ -4,9 +4,11 @@ use mathlib.Core.Path.{_≡_}
 use mathlib.Core.List.{List, [], _∷_}
 use Prim.Native.Nat.{ℕ, _+_, _<_, _≤_}
 use Rattle.paper.specs.declared.Geometry.{Geometry}
+use Rattle.paper.specs.declared.Settings.{Settings}
 use Rattle.paper.specs.declared.View.{View}
 use Rattle.paper.specs.Panel.{memoryLength}
 use Rattle.paper.specs.Strokes.{Stroke}
+use Rattle.paper.specs.Cells.{cellWidth, cellHeight}
 use Rattle.paper.specs.Moves.{Moved}
 
 -- a geometry for which the laws hold: some rows, some visible and some hidden columns, and addresses that code can count
@@ -32,6 +34,13 @@ pub record Room (g : Geometry) (v : View) (c l : ℕ) : Type 0 where
   pub c-fits : c ≤ v .width
   pub l-some : 0 < l
   pub l-fits : l ≤ v .height
+
+-- the sizes of a cell that settings can ask for
+pub record CellSize (v : Settings) : Type 0 where
+  pub narrow : 6 ≤ cellWidth (v .width) (v .style)
+  pub wide : cellWidth (v .width) (v .style) ≤ 28
+  pub low : 1 ≤ cellHeight (v .style)
+  pub high : cellHeight (v .style) ≤ 2
 
 -- a stroke's rectangle lies in a rectangle
 abbrev pub Inside : ℕ → ℕ → ℕ → ℕ → Stroke → Type 0

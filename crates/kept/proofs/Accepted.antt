@@ -1,0 +1,188 @@
+-- Every byte, and every other call that is not refused, leaves an accepted state accepted, and writes in memory only.
+-- Assumes nothing.
+use mathlib.Core.Path.{_≡_, refl}
+use mathlib.Core.Bool.{Bool, true, false, cond, _&&_, or-true}
+use mathlib.Core.List.{List, [], _∷_}
+use Prim.Native.Nat.{ℕ, zero, suc}
+use native.Mathlib.Omega.{arith}
+use lib.Dec.{ltb, eqb}
+use lib.ListN.{replicate}
+use borrow.Author.Tests.{lt-ltb, not-false}
+use Rattle.paper.specs.declared.Geometry.{Geometry}
+use Rattle.paper.specs.declared.Cursor.{Cursor}
+use Rattle.paper.specs.declared.Window.{Window}
+use Rattle.paper.specs.declared.Span.{Span}
+use Rattle.paper.specs.declared.Half.the-variants.{Nothing}
+use Rattle.paper.specs.declared.Command.{Command}
+use Rattle.paper.specs.declared.Command.the-variants.{Character, Back, Tab, LineFeed, Home, Clear, Return, Select, Initialise, Mode, Set, Enlarge, CursorSet, Define, Cancel, Uncarried}
+use Rattle.paper.specs.declared.State.{State}
+use Rattle.paper.specs.Reading.{between}
+use Rattle.paper.specs.Strokes.{Stroke, noSpan}
+use Rattle.paper.specs.Settings.{initialStyle, initialSettings, topLeft, initialState, inDomain, inEnlargement, withHalf, withSpans, windowAt, isDefined, selectable, fits, newWindow, defined, cursorOf, cursor, atCursor, inMode, insideWindow, viewOf}
+use Rattle.paper.specs.Bounds.{settingsOk, cursorOk, isBlank, windowOk, windowsOk, holdOk, spanOk, spansOk, halfOk, accepted}
+use Rattle.paper.specs.Moves.{Moved}
+use Rattle.paper.specs.Carry.{moves, becomes, ownersOnly, outOfDomain, notDefined, cellExceeds, widthNow, heightNow, carriedOut, imageStrokes, byteMeans}
+use Rattle.paper.specs.Calls.{Feeding, next, run}
+use Rattle.laws.specs.Readings.{commandOk}
+use Rattle.laws.proofs.Tests.{both-of, between-facts, between-true}
+use Rattle.kept.specs.Room.{Usable, AllIn, Kept}
+use Rattle.kept.specs.Parts.{Parts}
+use Rattle.kept.specs.After.{settled, Sound}
+use Rattle.kept.proofs.Moves.{all-wider, home-kept, return-kept, clear-kept, image-inside, ht-kept, back-kept, feed-kept, character-kept}
+use Rattle.kept.proofs.Parts.{parts, whole, fits-facts, cursor-facts, cursor-true, InWindow, selected-window}
+use Rattle.kept.proofs.Settings.{set-ok, enlarged-ok}
+use Rattle.kept.proofs.Spans.{marks-ok}
+use Rattle.kept.proofs.Builders.{half-parts, settings-parts, spans-parts, selected-parts, defined-parts, cancelled-parts, cursor-parts}
+use Rattle.kept.proofs.Views.{view-place, view-room, view-kept}
+use Rattle.kept.proofs.Cases.{Allowed, by-byte}
+
+-- empty spans pass
+empty-ok : (g : Geometry) (n : ℕ) → spansOk g (replicate n noSpan) ≡ true
+unfolding spanOk
+empty-ok g zero = refl
+empty-ok g (suc n) = empty-ok g n
+
+module _ (g : Geometry) (s : State) (p : Parts g s) where
+  -- a cursor goes to a place of the current window, with one of the three modes
+  placed-parts : (x y mode : ℕ) → insideWindow g s x y ≡ true → between 1 3 mode ≡ true
+      → Parts g (atCursor s (cursor x y mode))
+  unfolding insideWindow cursorOk
+  placed-parts x y mode h m = cursor-parts g s p (cursor x y mode) (go (eqb (s .selected) 0) h) where
+    w : Window
+    w = windowAt (s .windows) (s .selected)
+
+    go : (t : Bool) → cond t (ltb x (g .columns) && ltb y (g .rows)) (ltb x (w .width) && ltb y (w .height)) ≡ true
+        → cond t (cursorOk (g .columns) (g .rows) (cursor x y mode)) (cursorOk (w .width) (w .height) (cursor x y mode)) ≡ true
+    go true h = let f = both-of (ltb x (g .columns)) _ h in rw (f .0, f .1, m)
+    go false h = let f = both-of (ltb x (w .width)) _ h in rw (f .0, f .1, m)
+
+  -- the current window's cursor is in it and has one of the three modes
+  cursor-now : (insideWindow g s (cursorOf s .x) (cursorOf s .y) ≡ true) × (between 1 3 (cursorOf s .mode) ≡ true)
+  unfolding insideWindow cursorOf
+  cursor-now = go (eqb (s .selected) 0) refl where
+    w : Window
+    w = windowAt (s .windows) (s .selected)
+
+    here : (width height : ℕ) (k : Cursor) → InWindow width height k
+        → ((ltb (k .x) width && ltb (k .y) height) ≡ true) × (between 1 3 (k .mode) ≡ true)
+    here width height k f =
+        (rw (lt-ltb (k .x) width (f .0), lt-ltb (k .y) height (f .1)), between-true 1 3 (k .mode) (f .2) (f .3))
+
+    go : (t : Bool) → eqb (s .selected) 0 ≡ t
+        → let k = cond t (s .base) (w .cursor) in
+        (cond t (ltb (k .x) (g .columns) && ltb (k .y) (g .rows)) (ltb (k .x) (w .width) && ltb (k .y) (w .height)) ≡ true)
+        × (between 1 3 (k .mode) ≡ true)
+    go true e = here (g .columns) (g .rows) (s .base) (cursor-facts (g .columns) (g .rows) (s .base) (p .base))
+    go false e = here (w .width) (w .height) (w .cursor) (selected-window g s p e .1)
+
+-- a new window is in memory with its cursor at its top left
+new-ok : (g : Geometry) (left top width height : ℕ) → fits g left top width height ≡ true
+    → (windowOk g (newWindow left top width height) ≡ true) × (isDefined (newWindow left top width height) ≡ true)
+unfolding windowOk topLeft
+new-ok g left top width height e =
+    let f = fits-facts g left top width height e in
+    (rw (e, cursor-true width height topLeft (omega arith), or-true), lt-ltb 0 width (omega arith))
+
+module _ (g : Geometry) (u : Usable g) where
+  -- the initial state, with any spans that pass
+  pub initial-parts : (ps : List Span) → spansOk g ps ≡ true → Parts g (withSpans (initialState g) ps)
+  unfolding initialState initialSettings initialStyle settingsOk inDomain inEnlargement windowsOk windowOk isBlank selectable holdOk halfOk topLeft
+  initial-parts ps h =
+      record {
+        settings = refl;
+        windows = refl;
+        base = cursor-true (g .columns) (g .rows) topLeft (omega arith);
+        selected = refl;
+        hold = refl;
+        half = refl;
+        spans = h;
+      }
+
+  -- a state for which nothing is written
+  becomes-sound : (q : State) → Parts g q → Sound g (becomes q)
+  becomes-sound q p = record { state = whole g q p; strokes = tt }
+
+  module _ (s : State) (h : accepted g s ≡ true) where
+    -- what lies in the range lies in memory
+    view-inside : (ss : List Stroke)
+        → AllIn (viewOf g s .left) (viewOf g s .top) (viewOf g s .width) (viewOf g s .height) ss
+        → AllIn 0 0 (g .columns) (g .rows) ss
+    view-inside ss k =
+        let i = view-place g u s h in
+        let v = viewOf g s in
+        all-wider (v .left) (v .top) (v .width) (v .height) 0 0 (g .columns) (g .rows)
+        (omega arith) (omega arith) (omega arith) (omega arith) ss k
+
+    -- a move of the range
+    moved-sound : (t : Moved) → Kept (viewOf g s) t → Sound g (moves s t)
+    moved-sound t k = record { state = view-kept g u s h t k; strokes = view-inside (t .strokes) (k .inside) }
+
+    -- every command that is carried out
+    pub carried-sound : (font : List ℕ) (c : Command) → commandOk c ≡ true → Allowed g s c → Sound g (carriedOut g font s c)
+    unfolding carriedOut commandOk ownersOnly outOfDomain notDefined cellExceeds inMode
+    carried-sound font (Character b) o a =
+        let v = viewOf g s in
+        moved-sound _ (character-kept g font (s .settings .width) (s .settings .style) b v (view-room g u s h (a .room)))
+    carried-sound font Back o a =
+        moved-sound _ (back-kept g (viewOf g s) (widthNow s) (heightNow s) (view-room g u s h (a .room)))
+    carried-sound font Tab o a = moved-sound _ (ht-kept g (viewOf g s) (widthNow s) (heightNow s) (view-room g u s h (a .room)))
+    carried-sound font LineFeed o a =
+        moved-sound _ (feed-kept g (viewOf g s) (widthNow s) (heightNow s) (view-room g u s h (a .room)))
+    carried-sound font Home o a = moved-sound _ (home-kept (viewOf g s) g (view-place g u s h))
+    carried-sound font Clear o a = moved-sound _ (clear-kept (viewOf g s) g (view-place g u s h))
+    carried-sound font Return o a = moved-sound _ (return-kept (viewOf g s) g (view-place g u s h))
+    carried-sound font (Select k) o a =
+        becomes-sound _ (selected-parts g s (parts g s h) k (not-false (selectable (s .windows) k) (a .defined)) (a .owner))
+    carried-sound font Initialise o a =
+        record { state = whole g _ (initial-parts (s .spans) (parts g s h .spans)); strokes = (omega arith, tt) }
+    carried-sound font (Mode n) o a =
+        let p = parts g s h in
+        becomes-sound _ (placed-parts g s p (cursorOf s .x) (cursorOf s .y) n (cursor-now g s p .0) o)
+    carried-sound font (Set key n) o a =
+        let p = parts g s h in
+        let e = not-false (inDomain key n) (a .domain) in
+        becomes-sound _ (settings-parts g s p _ (set-ok (s .settings) (p .settings) key n e))
+    carried-sound font (Enlarge x y) o a =
+        let p = parts g s h in
+        let e = not-false (inEnlargement x y) (a .domain) in
+        becomes-sound _ (settings-parts g s p _ (enlarged-ok (s .settings) (p .settings) x y e))
+    carried-sound font (CursorSet x y) o a =
+        let p = parts g s h in
+        let e = not-false (insideWindow g s x y) (a .domain) in
+        becomes-sound _ (placed-parts g s p x y (cursorOf s .mode) e (cursor-now g s p .1))
+    carried-sound font (Define k left top width height) o a =
+        let w = new-ok g left top width height (not-false (fits g left top width height) (a .domain)) in
+        becomes-sound _ (defined-parts g s (parts g s h) k (newWindow left top width height) (w .0) (w .1))
+    carried-sound font (Cancel k) o a = becomes-sound _ (cancelled-parts g s (parts g s h) k (between-facts 1 4 k o .0) (a .owner))
+    carried-sound font Uncarried o a = record { state = h; strokes = tt }
+
+  module _ (font : List ℕ) where
+    -- every byte: its state is accepted, and what it writes lies in memory
+    pub byte-sound : (s : State) (b : ℕ) → accepted g s ≡ true → Sound g (byteMeans g font s b)
+    unfolding halfOk
+    byte-sound s b h =
+        let p = parts g s h in
+        let v = viewOf g s in
+        by-byte g font (Sound g) s (λ q o e. record { state = whole g _ (half-parts g s p q e); strokes = tt })
+        (λ q o column row c e.
+        record {
+          state = whole g _ (half-parts g s p q e);
+          strokes = view-inside s h (imageStrokes v s column row c) (image-inside v s column row c);
+        })
+        (λ c o a. carried-sound (withHalf s Nothing) (whole g _ (half-parts g s p Nothing refl)) font c o a)
+        b (p .half)
+
+    -- THE LAW: a byte leaves an accepted state accepted
+    pub accepted-kept : (s : State) (b : ℕ) → accepted g s ≡ true → accepted g (settled (byteMeans g font s b)) ≡ true
+    accepted-kept s b h =
+        let f = byte-sound s b h in
+        let t = byteMeans g font s b in
+        let p = parts g (t .state) (f .state) in
+        whole g _ (spans-parts g (t .state) p _ (marks-ok g (t .state .spans) (t .strokes) (f .strokes) (p .spans)))
+
+    -- and so does a piece
+    pub run-accepted : (f : Feeding) (bs : List ℕ) → accepted g (f .answer .state) ≡ true
+        → accepted g (run g font f bs .answer .state) ≡ true
+    unfolding next
+    run-accepted f [] h = h
+    run-accepted f (b ∷ bs) h = run-accepted (next g font f b) bs (accepted-kept (f .answer .state) b h)
