@@ -3,10 +3,9 @@
 use mathlib.Core.Path.{_≡_, refl}
 use mathlib.Core.Bool.{Bool, true, false, cond, _&&_, or-true}
 use mathlib.Core.List.{List, [], _∷_}
-use Prim.Native.Nat.{ℕ, zero, suc}
+use Prim.Native.Nat.{ℕ}
 use native.Mathlib.Omega.{arith}
 use lib.Dec.{ltb, eqb}
-use lib.ListN.{replicate}
 use borrow.Author.Tests.{lt-ltb, not-false}
 use Rattle.paper.specs.declared.Geometry.{Geometry}
 use Rattle.paper.specs.declared.Cursor.{Cursor}
@@ -17,9 +16,9 @@ use Rattle.paper.specs.declared.Command.{Command}
 use Rattle.paper.specs.declared.Command.the-variants.{Character, Back, Tab, LineFeed, Home, Clear, Return, Select, Initialise, Mode, Set, Enlarge, CursorSet, Define, Cancel, Uncarried}
 use Rattle.paper.specs.declared.State.{State}
 use Rattle.paper.specs.Reading.{between}
-use Rattle.paper.specs.Strokes.{Stroke, noSpan}
+use Rattle.paper.specs.Strokes.{Stroke}
 use Rattle.paper.specs.Settings.{initialStyle, initialSettings, topLeft, initialState, inDomain, inEnlargement, withHalf, withSpans, windowAt, isDefined, selectable, fits, newWindow, defined, cursorOf, cursor, atCursor, inMode, insideWindow, viewOf}
-use Rattle.paper.specs.Bounds.{settingsOk, cursorOk, isBlank, windowOk, windowsOk, holdOk, spanOk, spansOk, halfOk, accepted}
+use Rattle.paper.specs.Bounds.{settingsOk, cursorOk, isBlank, windowOk, windowsOk, holdOk, spansOk, halfOk, accepted}
 use Rattle.paper.specs.Moves.{Moved}
 use Rattle.paper.specs.Carry.{moves, becomes, ownersOnly, outOfDomain, notDefined, cellExceeds, widthNow, heightNow, carriedOut, imageStrokes, byteMeans}
 use Rattle.paper.specs.Calls.{Feeding, next, run}
@@ -35,12 +34,6 @@ use Rattle.kept.proofs.Spans.{marks-ok}
 use Rattle.kept.proofs.Builders.{half-parts, settings-parts, spans-parts, selected-parts, defined-parts, cancelled-parts, cursor-parts}
 use Rattle.kept.proofs.Views.{view-place, view-room, view-kept}
 use Rattle.kept.proofs.Cases.{Allowed, by-byte}
-
--- empty spans pass
-empty-ok : (g : Geometry) (n : ℕ) → spansOk g (replicate n noSpan) ≡ true
-unfolding spanOk
-empty-ok g zero = refl
-empty-ok g (suc n) = empty-ok g n
 
 module _ (g : Geometry) (s : State) (p : Parts g s) where
   -- a cursor goes to a place of the current window, with one of the three modes
@@ -153,7 +146,8 @@ module _ (g : Geometry) (u : Usable g) where
     carried-sound font (Define k left top width height) o a =
         let w = new-ok g left top width height (not-false (fits g left top width height) (a .domain)) in
         becomes-sound _ (defined-parts g s (parts g s h) k (newWindow left top width height) (w .0) (w .1))
-    carried-sound font (Cancel k) o a = becomes-sound _ (cancelled-parts g s (parts g s h) k (between-facts 1 4 k o .0) (a .owner))
+    carried-sound font (Cancel k) o a =
+        becomes-sound _ (cancelled-parts g s (parts g s h) k (between-facts 1 4 k o .0) (a .owner))
     carried-sound font Uncarried o a = record { state = h; strokes = tt }
 
   module _ (font : List ℕ) where

@@ -54,7 +54,8 @@ module _ (v : View) (t : Moved) where
         y = omega arith;
         inside =
             all-append (v .left) (v .top) (v .width) (v .height) (t .strokes) (f (t .view) .strokes) (p .inside)
-            (all-wider (t .view .left) (t .view .top) (t .view .width) (t .view .height) (v .left) (v .top) (v .width) (v .height)
+            (all-wider (t .view .left) (t .view .top) (t .view .width) (t .view .height)
+            (v .left) (v .top) (v .width) (v .height)
             (omega arith) (omega arith) (omega arith) (omega arith) (f (t .view) .strokes) (q .inside));
       }
 
@@ -134,7 +135,8 @@ module _ (g : Geometry) (v : View) (c l : ℕ) (i : Room g v c l) where
   push-kept : Kept v (pushLeft g v c l)
   unfolding pushLeft
   push-kept =
-      writing-kept v (leftStroke g v l (v .x + 2 * c - v .width)) (v .width - c) (v .y) (omega arith) (omega arith) (omega arith)
+      let n = v .x + 2 * c - v .width in
+      writing-kept v (leftStroke g v l n) (v .width - c) (v .y) (omega arith) (omega arith) (omega arith)
 
   -- HT
   pub ht-kept : Kept v (htOf g v c l)

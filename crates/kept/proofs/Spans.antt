@@ -5,7 +5,7 @@ use mathlib.Core.List.{List, [], _∷_}
 use Prim.Native.Nat.{ℕ, zero, suc, _+_, _<_, _≤_, min, max}
 use native.Mathlib.Omega.{arith}
 use lib.Dec.{leb, ltb}
-use lib.ListN.{length, getD}
+use lib.ListN.{length, getD, replicate}
 use borrow.Author.Tests.{leb-true, le-leb, ltb-true, lt-ltb, eqb-true}
 use Rattle.paper.specs.declared.Geometry.{Geometry}
 use Rattle.paper.specs.declared.Span.{Span}
@@ -30,6 +30,12 @@ length-marks ps (s ∷ ss) = length-marks (marked ps s) ss ∙ length-from s 0 p
 -- ---- in bounds
 
 module _ (g : Geometry) where
+  -- empty spans
+  pub empty-ok : (n : ℕ) → spansOk g (replicate n noSpan) ≡ true
+  unfolding spanOk
+  empty-ok zero = refl
+  empty-ok (suc n) = empty-ok n
+
   -- a span that is not empty, of columns that the memory has
   span-true : (first end : ℕ) → first < end → end ≤ g .columns → spanOk g (spanOf first end) ≡ true
   unfolding spanOk
@@ -43,7 +49,8 @@ module _ (g : Geometry) where
       (ltb-true (p .first) (p .end) (f .0), leb-true (p .end) (g .columns) (f .1))
 
   -- a span grown by columns of the memory
-  grown-ok : (p : Span) (first end : ℕ) → spanOk g p ≡ true → first < end → end ≤ g .columns → spanOk g (grown p first end) ≡ true
+  grown-ok : (p : Span) (first end : ℕ) → spanOk g p ≡ true → first < end → end ≤ g .columns
+      → spanOk g (grown p first end) ≡ true
   unfolding grown
   grown-ok p first end h l u =
       by-cond (λ (q : Span). spanOk g q ≡ true) (isNothing p) (λ _. span-true first end l u)
