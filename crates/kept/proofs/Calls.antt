@@ -4,9 +4,8 @@ use mathlib.Core.Bool.{true}
 use mathlib.Core.List.{List, [], _∷_}
 use Prim.Native.Nat.{ℕ}
 use native.Mathlib.Omega.{arith}
-use lib.Dec.{leb, eqb}
 use lib.ListN.{replicate}
-use borrow.Author.Tests.{le-leb, eq-eqb, ne-eqb}
+use borrow.Author.Tests.{le-leb, ne-eqb}
 use Rattle.paper.specs.declared.Geometry.{Geometry}
 use Rattle.paper.specs.declared.Hold.{Hold}
 use Rattle.paper.specs.declared.Hold.the-variants.{Free, Held}
@@ -16,14 +15,14 @@ use Rattle.paper.specs.declared.Answer.{Answer}
 use Rattle.paper.specs.Reading.{between}
 use Rattle.paper.specs.Strokes.{noSpan}
 use Rattle.paper.specs.Settings.{initialState, windowAt, isDefined, selectable}
-use Rattle.paper.specs.Bounds.{settingsOk, holdOk, halfOk, accepted}
+use Rattle.paper.specs.Bounds.{holdOk, halfOk, accepted}
 use Rattle.paper.specs.Cells.{eraseStroke}
 use Rattle.paper.specs.Calls.{isAccepted, startRefusal, Starting, started, startCall, feedRefusal, Feeding, fedNothing, feedCall, holdRefusal, heldBy, holdCall, releaseRefusal, putBack, released, releaseCall, refreshRefusal, Refreshing, emptied, refreshCall}
-use Rattle.laws.proofs.Tests.{both-of, between-facts}
+use Rattle.laws.proofs.Tests.{between-facts}
 use Rattle.kept.specs.Room.{Usable}
 use Rattle.kept.specs.Parts.{Parts}
-use Rattle.kept.proofs.Moves.{by-cond}
-use Rattle.kept.proofs.Parts.{parts, whole}
+use Rattle.kept.proofs.Tests.{by-cond}
+use Rattle.kept.proofs.Parts.{parts, whole, hold-facts, hold-true}
 use Rattle.kept.proofs.Spans.{empty-ok, marks-ok}
 use Rattle.kept.proofs.Builders.{spans-parts}
 use Rattle.kept.proofs.Accepted.{initial-parts, run-accepted}
@@ -60,7 +59,7 @@ module _ (g : Geometry) (s : State) (h : accepted g s ≡ true) where
         windows = p .windows;
         base = p .base;
         selected = may;
-        hold = rw (le-leb 1 k (f .0), eq-eqb k k refl, may, p .selected, p .settings);
+        hold = hold-true (s .windows) k k (s .selected) (s .settings) (f .0, refl, may, p .selected, p .settings);
         half = refl;
         spans = p .spans;
       })
@@ -71,15 +70,12 @@ module _ (g : Geometry) (s : State) (h : accepted g s ≡ true) where
   back-parts Free e = parts g s h
   back-parts (Held k back v) e =
       let p = parts g s h in
-      let some = both-of (leb 1 k) _ e in
-      let same = both-of (eqb k (s .selected)) _ (some .1) in
-      let held = both-of (selectable (s .windows) k) _ (same .1) in
-      let saved = both-of (selectable (s .windows) back) (settingsOk v) (held .1) in
+      let f = hold-facts (s .windows) (s .selected) k back v e in
       record {
-        settings = saved .1;
+        settings = f .4;
         windows = p .windows;
         base = p .base;
-        selected = saved .0;
+        selected = f .3;
         hold = refl;
         half = refl;
         spans = p .spans;

@@ -21,7 +21,7 @@ use Rattle.paper.specs.Carry.{Meaning, means, notCarried, isHeld, ownersOnly, o
 use Rattle.laws.specs.Readings.{commandOk, readingOk}
 use Rattle.laws.proofs.Readings.{reads-ok}
 use Rattle.laws.proofs.Tests.{both-of}
-use Rattle.kept.proofs.Moves.{by-cond}
+use Rattle.kept.proofs.Tests.{by-cond}
 
 -- a command to which none of 14, 15, 11, 17 and 16 is answered
 pub record Allowed (g : Geometry) (s : State) (c : Command) : Type 0 where

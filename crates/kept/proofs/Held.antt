@@ -5,10 +5,10 @@ use mathlib.Core.Bool.{true, false, true≢false}
 use mathlib.Core.List.{List, [], _∷_}
 use Prim.Native.Nat.{ℕ, zero, suc, _-_, _<_, _≤_}
 use native.Mathlib.Omega.{arith}
-use lib.Dec.{leb, eqb}
+use lib.Dec.{eqb}
 use lib.ListN.{getD, set}
 use lib.Seq.{getD-set-other}
-use borrow.Author.Tests.{leb-true, eqb-true, ne-eqb, eqb-false}
+use borrow.Author.Tests.{ne-eqb, eqb-false}
 use Rattle.paper.specs.declared.Geometry.{Geometry}
 use Rattle.paper.specs.declared.Settings.{Settings}
 use Rattle.paper.specs.declared.Cursor.{Cursor}
@@ -27,27 +27,18 @@ use Rattle.paper.specs.Bounds.{holdOk, halfOk, accepted}
 use Rattle.paper.specs.Moves.{Moved}
 use Rattle.paper.specs.Carry.{Meaning, moves, becomes, isHeld, ownersOnly, cellExceeds, widthNow, heightNow, carriedOut, imageStrokes, byteMeans}
 use Rattle.paper.specs.Calls.{isAccepted, feedRefusal, Feeding, next, run, fedNothing, feedCall}
-use Rattle.laws.proofs.Tests.{both-of}
 use Rattle.kept.specs.Room.{Usable, AllIn, Kept}
 use Rattle.kept.specs.After.{settled}
 use Rattle.kept.specs.Guest.{Holding, Guest, OnlyInside}
-use Rattle.kept.proofs.Moves.{by-cond, home-kept, return-kept, clear-kept, image-inside, ht-kept, back-kept, feed-kept, character-kept}
-use Rattle.kept.proofs.Parts.{parts, whole, selected-window}
+use Rattle.kept.proofs.Tests.{by-cond}
+use Rattle.kept.proofs.Moves.{home-kept, return-kept, clear-kept, image-inside, ht-kept, back-kept, feed-kept, character-kept}
+use Rattle.kept.proofs.Parts.{parts, whole, selected-window, hold-facts}
 use Rattle.kept.proofs.Builders.{half-parts}
 use Rattle.kept.proofs.Views.{view-place, view-room, view-window}
 use Rattle.kept.proofs.Cases.{Allowed, by-byte}
 use Rattle.kept.proofs.Accepted.{accepted-kept}
 use Rattle.kept.proofs.Refusals.{feed-given}
 use Rattle.kept.proofs.Outside.{outside-same}
-
--- what is held is the selected window, and not the base
-pub held-selected : (ws : List Window) (selected k back : ℕ) (v : Settings) → holdOk ws selected (Held k back v) ≡ true
-    → (1 ≤ k) × (k ≡ selected)
-unfolding holdOk
-held-selected ws selected k back v e =
-    let some = both-of (leb 1 k) _ e in
-    let same = both-of (eqb k selected) _ (some .1) in
-    (leb-true 1 k (some .0), eqb-true k selected (same .0))
 
 -- a number of a window that its replacement has too stays at its place
 field-set : (f : Window → ℕ) (ws : List Window) (i : ℕ) (w d : Window) → f w ≡ f (getD ws i d)
@@ -169,23 +160,24 @@ module _ (g : Geometry) (u : Usable g) (font : List ℕ) where
 -- ---- window k is held
 
 module _ (g : Geometry) (k back : ℕ) (v : Settings) (s : State) (i : Holding g k back v s) where
-  -- the window held is the selected one
+  -- the window held is the selected one, and not the base
   pub is-selected : (1 ≤ k) × (k ≡ s .selected)
   is-selected =
-      held-selected (s .windows) (s .selected) k back v
-      (subst (λ (q : Hold). holdOk (s .windows) (s .selected) q ≡ true) (i .held) (parts g s (i .accepts) .hold))
+      let ok = subst (λ (q : Hold). holdOk (s .windows) (s .selected) q ≡ true) (i .held) (parts g s (i .accepts) .hold) in
+      let f = hold-facts (s .windows) (s .selected) k back v ok in
+      (f .0, f .1)
 
-  -- which is not the base
+  -- so it is a user window that is selected
   pub is-user : eqb (s .selected) 0 ≡ false
   is-user = let f = is-selected in ne-eqb (s .selected) 0 (omega arith)
 
-  -- its cursor is in it
+  -- the cursor of the window held is in it
   pub in-window : let w = windowAt (s .windows) k in (w .cursor .x < w .width) × (w .cursor .y < w .height)
   in-window =
       let w = selected-window g s (parts g s (i .accepts)) is-user in
       rw (is-selected .1) (w .1 .0, w .1 .1)
 
-  -- no byte changes nothing
+  -- with no bytes all is kept
   no-guest : Guest k back v s s
   no-guest =
       let f = in-window in
@@ -202,7 +194,7 @@ module _ (g : Geometry) (k back : ℕ) (v : Settings) (s : State) (i : Holding g
         y = f .1;
       }
 
-  -- nor do bytes after bytes
+  -- what some bytes keep and then others, all of them keep
   then-guest : (r q : State) → Guest k back v s r → Guest k back v r q → Guest k back v s q
   then-guest r q a b =
       record {
@@ -220,21 +212,21 @@ module _ (g : Geometry) (k back : ℕ) (v : Settings) (s : State) (i : Holding g
 
 module _ (g : Geometry) (u : Usable g) (font : List ℕ) (k back : ℕ) (v : Settings) where
   module _ (s : State) (i : Holding g k back v s) (b : ℕ) where
-    -- a guest's byte
+    -- a guest's byte, by the selected window
     within : Within (withHalf s Nothing) (byteMeans g font s b)
     unfolding isHeld
     within = byte-within g u font s b (i .accepts) (ap isHeld (i .held)) (is-user g k back v s i)
 
-    -- writes in the window held
+    -- a guest's byte writes in the window held
     pub byte-inside : let w = windowAt (s .windows) k in
         AllIn (w .left) (w .top) (w .width) (w .height) (byteMeans g font s b .strokes)
     byte-inside = rw (is-selected g k back v s i .1) (within .strokes)
 
-    -- leaves the hold as it is
+    -- after it the window is held as before
     pub byte-holding : Holding g k back v (settled (byteMeans g font s b))
     byte-holding = record { accepts = accepted-kept g u font s b (i .accepts); held = within .state .hold ∙ i .held }
 
-    -- and keeps all but the held window's cursor and mode
+    -- it keeps the hold, the selection, the base cursor, the other windows and the held window's rectangle
     pub byte-guest : Guest k back v s (settled (byteMeans g font s b))
     byte-guest =
         let same = is-selected g k back v s i .1 in
@@ -258,7 +250,7 @@ module _ (g : Geometry) (u : Usable g) (font : List ℕ) (k back : ℕ) (v : Set
 
   -- ---- a whole piece
 
-  -- a guest's bytes keep all but the held window's cursor and mode
+  -- a guest's bytes keep what one byte keeps
   pub run-guest : (f : Feeding) (bs : List ℕ) → Holding g k back v (f .answer .state)
       → Guest k back v (f .answer .state) (run g font f bs .answer .state)
   unfolding next
@@ -267,7 +259,7 @@ module _ (g : Geometry) (u : Usable g) (font : List ℕ) (k back : ℕ) (v : Set
       then-guest g k back v (f .answer .state) i (settled (byteMeans g font (f .answer .state) b)) _
       (byte-guest (f .answer .state) i b) (run-guest (next g font f b) bs (byte-holding (f .answer .state) i b))
 
-  -- and no cell outside it
+  -- and change no cell outside the window held
   pub run-outside : (f : Feeding) (bs : List ℕ) → Holding g k back v (f .answer .state)
       → OnlyInside g k (f .answer .state) (f .mem) (run g font f bs .mem)
   unfolding next
@@ -285,7 +277,7 @@ module _ (g : Geometry) (u : Usable g) (font : List ℕ) (k back : ℕ) (v : Set
 
   -- ---- a feed, refused or not
 
-  -- keeps all but the held window's cursor and mode
+  -- a feed keeps what a byte keeps
   pub feed-guest : (s : State) (m piece : List ℕ) → Holding g k back v s
       → Guest k back v s (feedCall g font s m piece .answer .state)
   unfolding feedCall

@@ -23,7 +23,7 @@ use Rattle.paper.specs.Cells.{eraseStroke}
 use Rattle.paper.specs.Calls.{isAccepted, startRefusal, Starting, startCall, feedRefusal, Feeding, next, run, fedNothing, feedCall, holdRefusal, heldBy, holdCall, releaseRefusal, putBack, released, releaseCall, refreshRefusal, Refreshing, emptied, refreshCall}
 use Rattle.kept.specs.After.{settled}
 use Rattle.kept.specs.Sized.{Sized}
-use Rattle.kept.proofs.Moves.{by-cond}
+use Rattle.kept.proofs.Tests.{by-cond}
 use Rattle.kept.proofs.Spans.{length-marks, marks-hold}
 use Rattle.kept.proofs.Cases.{any-byte}
 

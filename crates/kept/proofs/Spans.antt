@@ -13,7 +13,7 @@ use Rattle.paper.specs.Strokes.{Stroke, among, noSpan, spanOf, isNothing, spanH
 use Rattle.paper.specs.Bounds.{spanOk, spansOk}
 use Rattle.laws.proofs.Tests.{both-of}
 use Rattle.kept.specs.Room.{Inside, AllIn}
-use Rattle.kept.proofs.Moves.{by-cond}
+use Rattle.kept.proofs.Tests.{by-cond}
 
 -- ---- how many
 
