@@ -27,7 +27,7 @@ use Rattle.kept.specs.After.{settled, Sound}
 use Rattle.kept.proofs.Moves.{all-wider, home-kept, return-kept, clear-kept, image-inside, ht-kept, back-kept, feed-kept, character-kept}
 use Rattle.kept.proofs.Parts.{parts, whole, cursor-facts, cursor-true, picked-tests, fits-facts, selected-window}
 use Rattle.kept.proofs.Settings.{set-ok, enlarged-ok}
-use Rattle.kept.proofs.Spans.{marks-ok}
+use Rattle.kept.proofs.Marks.{marks-ok}
 use Rattle.kept.proofs.Builders.{half-parts, settings-parts, spans-parts, selected-parts, defined-parts, cancelled-parts, cursor-parts}
 use Rattle.kept.proofs.Views.{view-place, view-room, view-kept}
 use Rattle.kept.proofs.Cases.{Allowed, by-byte}

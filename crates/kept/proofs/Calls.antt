@@ -23,7 +23,7 @@ use Rattle.kept.specs.Room.{Usable}
 use Rattle.kept.specs.Parts.{Parts}
 use Rattle.kept.proofs.Tests.{by-cond}
 use Rattle.kept.proofs.Parts.{parts, whole, hold-facts, hold-true}
-use Rattle.kept.proofs.Spans.{empty-ok, marks-ok}
+use Rattle.kept.proofs.Marks.{empty-ok, marks-ok}
 use Rattle.kept.proofs.Builders.{spans-parts}
 use Rattle.kept.proofs.Accepted.{initial-parts, run-accepted}
 use Rattle.kept.proofs.Refusals.{hold-given}

@@ -1,10 +1,9 @@
--- No byte and no call changes how many windows and spans there are; until a refresh no span loses a column. Assumes nothing.
+-- No byte and no call changes how many windows and spans there are. Assumes nothing.
 use mathlib.Core.Path.{_≡_, refl, ap, _∙_}
-use mathlib.Core.Bool.{true}
 use mathlib.Core.List.{List, [], _∷_}
 use Prim.Native.Nat.{ℕ, _-_}
 use lib.Dec.{eqb}
-use lib.ListN.{length, getD, length-set, length-replicate}
+use lib.ListN.{length, length-set, length-replicate}
 use Rattle.paper.specs.declared.Geometry.{Geometry}
 use Rattle.paper.specs.declared.Cursor.{Cursor}
 use Rattle.paper.specs.declared.Window.{Window}
@@ -16,7 +15,7 @@ use Rattle.paper.specs.declared.Answer.{Answer}
 use Rattle.paper.specs.declared.Command.{Command}
 use Rattle.paper.specs.declared.Command.the-variants.{Character, Back, Tab, LineFeed, Home, Clear, Return, Select, Initialise, Mode, Set, Enlarge, CursorSet, Define, Cancel, Uncarried}
 use Rattle.paper.specs.declared.State.{State}
-use Rattle.paper.specs.Strokes.{noSpan, spanHolds}
+use Rattle.paper.specs.Strokes.{noSpan}
 use Rattle.paper.specs.Settings.{initialState, withHalf, withSelected, noWindow, windowAt, defined, cancelled, withCursor, atCursor, inMode}
 use Rattle.paper.specs.Carry.{Meaning, carriedOut, byteMeans}
 use Rattle.paper.specs.Cells.{eraseStroke}
@@ -24,7 +23,7 @@ use Rattle.paper.specs.Calls.{isAccepted, startRefusal, Starting, startCall, fe
 use Rattle.kept.specs.After.{settled}
 use Rattle.kept.specs.Sized.{Sized}
 use Rattle.kept.proofs.Tests.{by-cond}
-use Rattle.kept.proofs.Spans.{length-marks, marks-hold}
+use Rattle.kept.proofs.Marks.{length-marks}
 use Rattle.kept.proofs.Cases.{any-byte}
 
 -- state r has the spans of s, and four windows if s has
@@ -100,20 +99,6 @@ module _ (g : Geometry) (font : List ℕ) where
   unfolding next
   run-sized f [] z = z
   run-sized f (b ∷ bs) z = run-sized (next g font f b) bs (byte-sized (f .answer .state) b z)
-
-  -- a column that row r's span holds is held after a byte
-  pub byte-holds : (s : State) (b r x : ℕ) → spanHolds (getD (s .spans) r noSpan) x ≡ true
-      → spanHolds (getD (settled (byteMeans g font s b) .spans) r noSpan) x ≡ true
-  byte-holds s b r x h =
-      let t = byteMeans g font s b in
-      marks-hold (t .state .spans) (t .strokes) r x (rw (byte-spans s b) h)
-
-  -- and after a piece
-  pub run-holds : (f : Feeding) (bs : List ℕ) (r x : ℕ) → spanHolds (getD (f .answer .state .spans) r noSpan) x ≡ true
-      → spanHolds (getD (run g font f bs .answer .state .spans) r noSpan) x ≡ true
-  unfolding next
-  run-holds f [] r x h = h
-  run-holds f (b ∷ bs) r x h = run-holds (next g font f b) bs r x (byte-holds (f .answer .state) b r x h)
 
 -- ---- the calls, refused or not
 
