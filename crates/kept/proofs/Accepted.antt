@@ -1,79 +1,44 @@
 -- Every byte, and every other call that is not refused, leaves an accepted state accepted, and writes in memory only.
 -- Assumes nothing.
 use mathlib.Core.Path.{_≡_, refl}
-use mathlib.Core.Bool.{Bool, true, false, cond, _&&_, or-true}
+use mathlib.Core.Bool.{true, or-true}
 use mathlib.Core.List.{List, [], _∷_}
-use Prim.Native.Nat.{ℕ, zero, suc}
+use Prim.Native.Nat.{ℕ}
 use native.Mathlib.Omega.{arith}
-use lib.Dec.{ltb, eqb}
-use lib.ListN.{replicate}
 use borrow.Author.Tests.{lt-ltb, not-false}
 use Rattle.paper.specs.declared.Geometry.{Geometry}
-use Rattle.paper.specs.declared.Cursor.{Cursor}
-use Rattle.paper.specs.declared.Window.{Window}
 use Rattle.paper.specs.declared.Span.{Span}
 use Rattle.paper.specs.declared.Half.the-variants.{Nothing}
 use Rattle.paper.specs.declared.Command.{Command}
 use Rattle.paper.specs.declared.Command.the-variants.{Character, Back, Tab, LineFeed, Home, Clear, Return, Select, Initialise, Mode, Set, Enlarge, CursorSet, Define, Cancel, Uncarried}
 use Rattle.paper.specs.declared.State.{State}
 use Rattle.paper.specs.Reading.{between}
-use Rattle.paper.specs.Strokes.{Stroke, noSpan}
-use Rattle.paper.specs.Settings.{initialStyle, initialSettings, topLeft, initialState, inDomain, inEnlargement, withHalf, withSpans, windowAt, isDefined, selectable, fits, newWindow, defined, cursorOf, cursor, atCursor, inMode, insideWindow, viewOf}
-use Rattle.paper.specs.Bounds.{settingsOk, cursorOk, isBlank, windowOk, windowsOk, holdOk, spanOk, spansOk, halfOk, accepted}
+use Rattle.paper.specs.Strokes.{Stroke}
+use Rattle.paper.specs.Settings.{initialStyle, initialSettings, topLeft, initialState, inDomain, inEnlargement, withHalf, withSpans, windowAt, isDefined, selectable, fits, newWindow, defined, cursorOf, cursor, inMode, insideWindow, viewOf}
+use Rattle.paper.specs.Bounds.{settingsOk, isBlank, windowOk, windowsOk, holdOk, spansOk, halfOk, accepted}
 use Rattle.paper.specs.Moves.{Moved}
 use Rattle.paper.specs.Carry.{moves, becomes, ownersOnly, outOfDomain, notDefined, cellExceeds, widthNow, heightNow, carriedOut, imageStrokes, byteMeans}
 use Rattle.paper.specs.Calls.{Feeding, next, run}
 use Rattle.laws.specs.Readings.{commandOk}
-use Rattle.laws.proofs.Tests.{both-of, between-facts, between-true}
+use Rattle.laws.proofs.Tests.{between-facts}
 use Rattle.kept.specs.Room.{Usable, AllIn, Kept}
 use Rattle.kept.specs.Parts.{Parts}
 use Rattle.kept.specs.After.{settled, Sound}
 use Rattle.kept.proofs.Moves.{all-wider, home-kept, return-kept, clear-kept, image-inside, ht-kept, back-kept, feed-kept, character-kept}
-use Rattle.kept.proofs.Parts.{parts, whole, fits-facts, cursor-facts, cursor-true, InWindow, selected-window}
+use Rattle.kept.proofs.Parts.{parts, whole, cursor-facts, cursor-true, picked-tests, fits-facts, selected-window}
 use Rattle.kept.proofs.Settings.{set-ok, enlarged-ok}
-use Rattle.kept.proofs.Spans.{marks-ok}
+use Rattle.kept.proofs.Marks.{marks-ok}
 use Rattle.kept.proofs.Builders.{half-parts, settings-parts, spans-parts, selected-parts, defined-parts, cancelled-parts, cursor-parts}
 use Rattle.kept.proofs.Views.{view-place, view-room, view-kept}
 use Rattle.kept.proofs.Cases.{Allowed, by-byte}
 
--- empty spans pass
-empty-ok : (g : Geometry) (n : ℕ) → spansOk g (replicate n noSpan) ≡ true
-unfolding spanOk
-empty-ok g zero = refl
-empty-ok g (suc n) = empty-ok g n
-
-module _ (g : Geometry) (s : State) (p : Parts g s) where
-  -- a cursor goes to a place of the current window, with one of the three modes
-  placed-parts : (x y mode : ℕ) → insideWindow g s x y ≡ true → between 1 3 mode ≡ true
-      → Parts g (atCursor s (cursor x y mode))
-  unfolding insideWindow cursorOk
-  placed-parts x y mode h m = cursor-parts g s p (cursor x y mode) (go (eqb (s .selected) 0) h) where
-    w : Window
-    w = windowAt (s .windows) (s .selected)
-
-    go : (t : Bool) → cond t (ltb x (g .columns) && ltb y (g .rows)) (ltb x (w .width) && ltb y (w .height)) ≡ true
-        → cond t (cursorOk (g .columns) (g .rows) (cursor x y mode)) (cursorOk (w .width) (w .height) (cursor x y mode)) ≡ true
-    go true h = let f = both-of (ltb x (g .columns)) _ h in rw (f .0, f .1, m)
-    go false h = let f = both-of (ltb x (w .width)) _ h in rw (f .0, f .1, m)
-
-  -- the current window's cursor is in it and has one of the three modes
-  cursor-now : (insideWindow g s (cursorOf s .x) (cursorOf s .y) ≡ true) × (between 1 3 (cursorOf s .mode) ≡ true)
-  unfolding insideWindow cursorOf
-  cursor-now = go (eqb (s .selected) 0) refl where
-    w : Window
-    w = windowAt (s .windows) (s .selected)
-
-    here : (width height : ℕ) (k : Cursor) → InWindow width height k
-        → ((ltb (k .x) width && ltb (k .y) height) ≡ true) × (between 1 3 (k .mode) ≡ true)
-    here width height k f =
-        (rw (lt-ltb (k .x) width (f .0), lt-ltb (k .y) height (f .1)), between-true 1 3 (k .mode) (f .2) (f .3))
-
-    go : (t : Bool) → eqb (s .selected) 0 ≡ t
-        → let k = cond t (s .base) (w .cursor) in
-        (cond t (ltb (k .x) (g .columns) && ltb (k .y) (g .rows)) (ltb (k .x) (w .width) && ltb (k .y) (w .height)) ≡ true)
-        × (between 1 3 (k .mode) ≡ true)
-    go true e = here (g .columns) (g .rows) (s .base) (cursor-facts (g .columns) (g .rows) (s .base) (p .base))
-    go false e = here (w .width) (w .height) (w .cursor) (selected-window g s p e .1)
+-- the current window's cursor is in it and has one of the three modes
+cursor-now : (g : Geometry) (s : State) → Parts g s
+    → (insideWindow g s (cursorOf s .x) (cursorOf s .y) ≡ true) × (between 1 3 (cursorOf s .mode) ≡ true)
+unfolding cursorOf
+cursor-now g s p =
+    picked-tests g s (s .base) (windowAt (s .windows) (s .selected) .cursor)
+    (λ _. cursor-facts (g .columns) (g .rows) (s .base) (p .base)) (λ e. selected-window g s p e .1)
 
 -- a new window is in memory with its cursor at its top left
 new-ok : (g : Geometry) (left top width height : ℕ) → fits g left top width height ≡ true
@@ -137,7 +102,7 @@ module _ (g : Geometry) (u : Usable g) where
         record { state = whole g _ (initial-parts (s .spans) (parts g s h .spans)); strokes = (omega arith, tt) }
     carried-sound font (Mode n) o a =
         let p = parts g s h in
-        becomes-sound _ (placed-parts g s p (cursorOf s .x) (cursorOf s .y) n (cursor-now g s p .0) o)
+        becomes-sound _ (cursor-parts g s p (cursor (cursorOf s .x) (cursorOf s .y) n) (cursor-now g s p .0) o)
     carried-sound font (Set key n) o a =
         let p = parts g s h in
         let e = not-false (inDomain key n) (a .domain) in
@@ -149,11 +114,12 @@ module _ (g : Geometry) (u : Usable g) where
     carried-sound font (CursorSet x y) o a =
         let p = parts g s h in
         let e = not-false (insideWindow g s x y) (a .domain) in
-        becomes-sound _ (placed-parts g s p x y (cursorOf s .mode) e (cursor-now g s p .1))
+        becomes-sound _ (cursor-parts g s p (cursor x y (cursorOf s .mode)) e (cursor-now g s p .1))
     carried-sound font (Define k left top width height) o a =
         let w = new-ok g left top width height (not-false (fits g left top width height) (a .domain)) in
         becomes-sound _ (defined-parts g s (parts g s h) k (newWindow left top width height) (w .0) (w .1))
-    carried-sound font (Cancel k) o a = becomes-sound _ (cancelled-parts g s (parts g s h) k (between-facts 1 4 k o .0) (a .owner))
+    carried-sound font (Cancel k) o a =
+        becomes-sound _ (cancelled-parts g s (parts g s h) k (between-facts 1 4 k o .0) (a .owner))
     carried-sound font Uncarried o a = record { state = h; strokes = tt }
 
   module _ (font : List ℕ) where

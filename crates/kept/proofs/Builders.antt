@@ -17,13 +17,14 @@ use Rattle.paper.specs.declared.Half.{Half}
 use Rattle.paper.specs.declared.Hold.{Hold}
 use Rattle.paper.specs.declared.Hold.the-variants.{Free, Held}
 use Rattle.paper.specs.declared.State.{State}
-use Rattle.paper.specs.Settings.{withSettings, withBase, withSelected, withHalf, withSpans, noWindow, windowAt, isDefined, selectable, defined, cancelled, withCursor, atCursor}
+use Rattle.paper.specs.Reading.{between}
+use Rattle.paper.specs.Settings.{withSettings, withBase, withSelected, withHalf, withSpans, noWindow, windowAt, isDefined, selectable, defined, cancelled, withCursor, atCursor, insideWindow}
 use Rattle.paper.specs.Bounds.{settingsOk, cursorOk, isBlank, windowOk, windowsOk, holdOk, spansOk, halfOk}
 use Rattle.paper.specs.Carry.{isHeld}
 use Rattle.laws.proofs.Tests.{both-of}
 use Rattle.kept.specs.Parts.{Parts}
-use Rattle.kept.proofs.Moves.{by-cond}
-use Rattle.kept.proofs.Parts.{fits-true, window-facts, window-at, windows-true, selected-facts}
+use Rattle.kept.proofs.Tests.{by-cond}
+use Rattle.kept.proofs.Parts.{cursor-whole, fits-true, window-facts, window-at, windows-true, selected-facts, hold-facts, hold-true}
 
 -- ---- a window put into its place
 
@@ -81,11 +82,9 @@ pub hold-set : (ws : List Window) (selected i : ℕ) (w : Window) (h : Hold) →
 unfolding holdOk
 hold-set ws selected i w Free d e = refl
 hold-set ws selected i w (Held k back v) d e =
-    let some = both-of (leb 1 k) _ e in
-    let same = both-of (eqb k selected) _ (some .1) in
-    let held = both-of (selectable ws k) _ (same .1) in
-    let saved = both-of (selectable ws back) (settingsOk v) (held .1) in
-    rw (some .0, same .0, selectable-set ws i k w d (held .0), selectable-set ws i back w d (saved .0), saved .1)
+    let f = hold-facts ws selected k back v e in
+    hold-true (set ws i w) selected k back v
+    (f .0, f .1, selectable-set ws i k w d (f .2), selectable-set ws i back w d (f .3), f .4)
 
 -- ---- windows
 
@@ -200,16 +199,15 @@ module _ (g : Geometry) (s : State) (p : Parts g s) where
       by-cond (Parts g) (eqb (s .selected) k) (λ _. without-parts k 0 n refl)
       (λ e. without-parts k (s .selected) n (selectable-other (s .windows) k (s .selected) noWindow l e (p .selected)))
 
-  -- the current window's cursor at k, k in the window
-  pub cursor-parts : (k : Cursor)
-      → cond (eqb (s .selected) 0) (cursorOk (g .columns) (g .rows) k)
-      (cursorOk (windowAt (s .windows) (s .selected) .width) (windowAt (s .windows) (s .selected) .height) k)
-      ≡ true → Parts g (atCursor s k)
-  unfolding atCursor
-  cursor-parts k h =
-      by-cond (Parts g) (eqb (s .selected) 0) (λ e. base-parts k (rw e at h))
+  -- the current window's cursor at a place of the window, with one of the three modes
+  pub cursor-parts : (k : Cursor) → insideWindow g s (k .x) (k .y) ≡ true → between 1 3 (k .mode) ≡ true
+      → Parts g (atCursor s k)
+  unfolding atCursor insideWindow
+  cursor-parts k h m =
+      by-cond (Parts g) (eqb (s .selected) 0) (λ e. base-parts k (cursor-whole (g .columns) (g .rows) k (rw e at h) m))
       (λ e.
       let w = windowAt (s .windows) (s .selected) in
       let f = selected-facts (s .windows) (s .selected) (p .selected) e in
+      let o = window-at g (s .windows) (s .selected) (p .windows) (f .0) (f .1) in
       defined-parts (s .selected) (withCursor w k)
-      (moved-ok g w k (window-at g (s .windows) (s .selected) (p .windows) (f .0) (f .1)) (f .2) (rw e at h)) (f .2))
+      (moved-ok g w k o (f .2) (cursor-whole (w .width) (w .height) k (rw e at h) m)) (f .2))

@@ -21,7 +21,7 @@ use Rattle.paper.specs.Carry.{Meaning, means, notCarried, isHeld, ownersOnly, o
 use Rattle.laws.specs.Readings.{commandOk, readingOk}
 use Rattle.laws.proofs.Readings.{reads-ok}
 use Rattle.laws.proofs.Tests.{both-of}
-use Rattle.kept.proofs.Moves.{by-cond}
+use Rattle.kept.proofs.Tests.{by-cond}
 
 -- a command to which none of 14, 15, 11, 17 and 16 is answered
 pub record Allowed (g : Geometry) (s : State) (c : Command) : Type 0 where
@@ -66,3 +66,23 @@ module _ (g : Geometry) (font : List ℕ) (P : Meaning → Type 0) where
     pub by-byte : (b : ℕ) → halfOk g (s .half) ≡ true → P (byteMeans g font s b)
     unfolding byteMeans
     by-byte b h = by-reading (readOf g (s .half) b) (reads-ok g (s .half) b h)
+
+  -- the same of a state of which nothing is known
+  module _ (s : State) (quiet : (p : Half) (o : Outcome) → P (means (withHalf s p) o []))
+      (image : (p : Half) (o : Outcome) (column row b : ℕ)
+      → P (means (withHalf s p) o (imageStrokes (viewOf g s) s column row b)))
+      (done : (c : Command) → P (carriedOut g font (withHalf s Nothing) c)) where
+    -- whatever is read
+    any-reading : (r : Reading) → P (takeOf g font s r)
+    unfolding takeOf
+    any-reading (More p) = quiet p Unfinished
+    any-reading (Whole c) = by-command (withHalf s Nothing) c (quiet Nothing) (λ _. done c)
+    any-reading (Picture column row b next) = image next Unfinished column row b
+    any-reading (PictureEnd column row b) = image Nothing Carried column row b
+    any-reading Cancels = quiet Nothing Cancelled
+    any-reading UnknownCode = quiet Nothing Unknown
+
+    -- every byte
+    pub any-byte : (b : ℕ) → P (byteMeans g font s b)
+    unfolding byteMeans
+    any-byte b = any-reading (readOf g (s .half) b)

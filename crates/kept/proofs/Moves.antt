@@ -1,6 +1,6 @@
 -- Every move keeps its range: the cursor stays in it, and nothing outside it is written. Assumes nothing.
-use mathlib.Core.Path.{_≡_, refl, _∙_}
-use mathlib.Core.Bool.{Bool, true, false, cond, _&&_, not}
+use mathlib.Core.Path.{refl, _∙_}
+use mathlib.Core.Bool.{_&&_, not}
 use mathlib.Core.List.{List, [], _∷_, _++_}
 use Prim.Native.Nat.{ℕ, _+_, _*_, _-_, _<_, _≤_}
 use native.Mathlib.Omega.{arith}
@@ -16,11 +16,7 @@ use Rattle.paper.specs.Moves.{Moved, only, writing, andThen, to, nextLine, next
 use Rattle.paper.specs.Carry.{imageStrokes}
 use Rattle.laws.proofs.Tests.{both-of}
 use Rattle.kept.specs.Room.{InMemory, Room, Inside, AllIn, Kept}
-
--- what holds of both answers of a test holds of the one that it picks
-pub by-cond : {A : Type 0} (P : A → Type 0) (t : Bool) {a b : A} → (t ≡ true → P a) → (t ≡ false → P b) → P (cond t a b)
-by-cond P true f h = f refl
-by-cond P false f h = h refl
+use Rattle.kept.proofs.Tests.{by-cond}
 
 -- ---- strokes in a rectangle
 
@@ -54,7 +50,8 @@ module _ (v : View) (t : Moved) where
         y = omega arith;
         inside =
             all-append (v .left) (v .top) (v .width) (v .height) (t .strokes) (f (t .view) .strokes) (p .inside)
-            (all-wider (t .view .left) (t .view .top) (t .view .width) (t .view .height) (v .left) (v .top) (v .width) (v .height)
+            (all-wider (t .view .left) (t .view .top) (t .view .width) (t .view .height)
+            (v .left) (v .top) (v .width) (v .height)
             (omega arith) (omega arith) (omega arith) (omega arith) (f (t .view) .strokes) (q .inside));
       }
 
@@ -134,7 +131,8 @@ module _ (g : Geometry) (v : View) (c l : ℕ) (i : Room g v c l) where
   push-kept : Kept v (pushLeft g v c l)
   unfolding pushLeft
   push-kept =
-      writing-kept v (leftStroke g v l (v .x + 2 * c - v .width)) (v .width - c) (v .y) (omega arith) (omega arith) (omega arith)
+      let n = v .x + 2 * c - v .width in
+      writing-kept v (leftStroke g v l n) (v .width - c) (v .y) (omega arith) (omega arith) (omega arith)
 
   -- HT
   pub ht-kept : Kept v (htOf g v c l)

@@ -1,17 +1,19 @@
 -- An accepted state taken apart and put together, and the facts that its tests stand for. Assumes nothing.
 use mathlib.Core.Path.{_≡_, refl}
-use mathlib.Core.Bool.{Bool, true, false, _||_}
+use mathlib.Core.Bool.{Bool, true, false, cond, _&&_, _||_}
 use mathlib.Core.List.{List}
 use Prim.Native.Nat.{ℕ, zero, suc, _+_, _<_, _≤_}
 use native.Mathlib.Omega.{arith}
 use lib.Dec.{leb, ltb, eqb}
-use borrow.Author.Tests.{leb-true, le-leb, ltb-true, lt-ltb, eqb-true, eqb-false}
+use borrow.Author.Tests.{leb-true, le-leb, ltb-true, lt-ltb, eqb-true, eqb-false, eq-eqb}
 use Rattle.paper.specs.declared.Geometry.{Geometry}
+use Rattle.paper.specs.declared.Settings.{Settings}
 use Rattle.paper.specs.declared.Cursor.{Cursor}
 use Rattle.paper.specs.declared.Window.{Window}
+use Rattle.paper.specs.declared.Hold.the-variants.{Held}
 use Rattle.paper.specs.declared.State.{State}
 use Rattle.paper.specs.Reading.{between}
-use Rattle.paper.specs.Settings.{windowAt, isDefined, selectable, fits}
+use Rattle.paper.specs.Settings.{windowAt, isDefined, selectable, fits, insideWindow}
 use Rattle.paper.specs.Bounds.{settingsOk, cursorOk, isBlank, windowOk, windowsOk, holdOk, spansOk, halfOk, accepted}
 use Rattle.laws.proofs.Tests.{both-of, between-facts, between-true}
 use Rattle.kept.specs.Parts.{Parts}
@@ -62,6 +64,36 @@ pub cursor-true : (w h : ℕ) (k : Cursor) → InWindow w h k → cursorOk w h k
 unfolding cursorOk
 cursor-true w h k f =
     rw (lt-ltb (k .x) w (f .0), lt-ltb (k .y) h (f .1), between-true 1 3 (k .mode) (f .2) (f .3))
+
+-- from a test of its place and one of its mode
+pub cursor-whole : (w h : ℕ) (k : Cursor) → (ltb (k .x) w && ltb (k .y) h) ≡ true → between 1 3 (k .mode) ≡ true
+    → cursorOk w h k ≡ true
+unfolding cursorOk
+cursor-whole w h k e m = let f = both-of (ltb (k .x) w) (ltb (k .y) h) e in rw (f .0, f .1, m)
+
+-- the cursor of the base window or of another, whichever is selected, passes both
+pub picked-tests : (g : Geometry) (s : State) (base other : Cursor)
+    → (eqb (s .selected) 0 ≡ true → InWindow (g .columns) (g .rows) base)
+    → (eqb (s .selected) 0 ≡ false
+    → InWindow (windowAt (s .windows) (s .selected) .width) (windowAt (s .windows) (s .selected) .height) other)
+    → let k = cond (eqb (s .selected) 0) base other in
+    (insideWindow g s (k .x) (k .y) ≡ true) × (between 1 3 (k .mode) ≡ true)
+unfolding insideWindow
+picked-tests g s base other f h = go (eqb (s .selected) 0) f h where
+  w : Window
+  w = windowAt (s .windows) (s .selected)
+
+  tests : (width height : ℕ) (k : Cursor) → InWindow width height k
+      → ((ltb (k .x) width && ltb (k .y) height) ≡ true) × (between 1 3 (k .mode) ≡ true)
+  tests width height k i =
+      (rw (lt-ltb (k .x) width (i .0), lt-ltb (k .y) height (i .1)), between-true 1 3 (k .mode) (i .2) (i .3))
+
+  go : (t : Bool) → (t ≡ true → InWindow (g .columns) (g .rows) base) → (t ≡ false → InWindow (w .width) (w .height) other)
+      → let k = cond t base other in
+      (cond t (ltb (k .x) (g .columns) && ltb (k .y) (g .rows)) (ltb (k .x) (w .width) && ltb (k .y) (w .height)) ≡ true)
+      × (between 1 3 (k .mode) ≡ true)
+  go true f h = tests (g .columns) (g .rows) base (f refl)
+  go false f h = tests (w .width) (w .height) other (h refl)
 
 -- a window that is defined is not the blank one, so what is asked of any other holds of it
 not-blank : (w : Window) (t : Bool) {u : Bool} → isDefined w ≡ true → isBlank w ≡ t → (t || u) ≡ true → u ≡ true
@@ -160,3 +192,26 @@ selected-window g s p e =
     let f = selected-facts (s .windows) (s .selected) (p .selected) e in
     window-facts g (windowAt (s .windows) (s .selected))
     (window-at g (s .windows) (s .selected) (p .windows) (f .0) (f .1)) (f .2)
+
+-- ---- holding
+
+-- window k held while `selected` is selected, `back` and `v` saved
+abbrev pub HeldWell : List Window → ℕ → ℕ → ℕ → Settings → Type 0
+HeldWell ws selected k back v =
+    (1 ≤ k) × (k ≡ selected) × (selectable ws k ≡ true) × (selectable ws back ≡ true) × (settingsOk v ≡ true)
+
+module _ (ws : List Window) (selected k back : ℕ) (v : Settings) where
+  -- the hold's test says so
+  pub hold-facts : holdOk ws selected (Held k back v) ≡ true → HeldWell ws selected k back v
+  unfolding holdOk
+  hold-facts e =
+      let some = both-of (leb 1 k) _ e in
+      let same = both-of (eqb k selected) _ (some .1) in
+      let held = both-of (selectable ws k) _ (same .1) in
+      let saved = both-of (selectable ws back) (settingsOk v) (held .1) in
+      (leb-true 1 k (some .0), eqb-true k selected (same .0), held .0, saved .0, saved .1)
+
+  -- and back
+  pub hold-true : HeldWell ws selected k back v → holdOk ws selected (Held k back v) ≡ true
+  unfolding holdOk
+  hold-true f = rw (le-leb 1 k (f .0), eq-eqb k selected (f .1), f .2, f .3, f .4)

@@ -1,13 +1,12 @@
 -- The range in which a command works lies in memory, and a move in it keeps a state accepted. Assumes nothing.
 use mathlib.Core.Path.{_≡_, refl, ap}
-use mathlib.Core.Bool.{Bool, true, false, cond, _||_, true≢false}
+use mathlib.Core.Bool.{true, false}
 use Prim.Native.Nat.{ℕ, _+_, _≤_}
 use native.Mathlib.Omega.{arith}
 use lib.Dec.{ltb, eqb}
 use borrow.Author.Tests.{ltb-true, ltb-false}
 use Rattle.paper.specs.declared.Geometry.{Geometry}
 use Rattle.paper.specs.declared.Cursor.{Cursor}
-use Rattle.paper.specs.declared.Window.{Window}
 use Rattle.paper.specs.declared.View.{View}
 use Rattle.paper.specs.declared.State.{State}
 use Rattle.paper.specs.Panel.{panel}
@@ -17,8 +16,8 @@ use Rattle.paper.specs.Cells.{tooLarge}
 use Rattle.paper.specs.Moves.{Moved}
 use Rattle.paper.specs.Carry.{widthNow, heightNow, exceeds}
 use Rattle.kept.specs.Room.{Usable, InMemory, Room, Kept}
-use Rattle.kept.proofs.Moves.{by-cond}
-use Rattle.kept.proofs.Parts.{parts, whole, cursor-facts, cursor-true, selected-window}
+use Rattle.kept.proofs.Tests.{by-cond, neither}
+use Rattle.kept.proofs.Parts.{parts, whole, cursor-facts, picked-tests, selected-window}
 use Rattle.kept.proofs.Settings.{cell-size}
 use Rattle.kept.proofs.Builders.{cursor-parts}
 
@@ -26,11 +25,6 @@ use Rattle.kept.proofs.Builders.{cursor-parts}
 pub panel-usable : Usable panel
 unfolding panel
 panel-usable = omega arith
-
--- the parts of a test of which neither passes
-neither : (a b : Bool) → (a || b) ≡ false → (a ≡ false) × (b ≡ false)
-neither true b e = absurd (true≢false e)
-neither false b e = (refl, e)
 
 -- the range of a user window is its rectangle
 pub view-window : (g : Geometry) (s : State) → eqb (s .selected) 0 ≡ false
@@ -90,19 +84,13 @@ module _ (g : Geometry) (u : Usable g) where
     -- where a move of the range ends, the state is accepted
     pub view-kept : (t : Moved) → Kept (viewOf g s) t → accepted g (withView s (t .view)) ≡ true
     unfolding cursorIn
-    view-kept t k = whole g _ (cursor-parts g s (parts g s h) (cursorIn s (t .view)) (go (eqb (s .selected) 0) refl)) where
-      v : View
-      v = t .view
-
-      w : Window
-      w = windowAt (s .windows) (s .selected)
-
-      -- the cursor is in its window, the base or another
-      go : (b : Bool) → eqb (s .selected) 0 ≡ b
-          → let q = cond b (cursor (v .left + v .x) (v .top + v .y) (v .mode)) (cursor (v .x) (v .y) (v .mode)) in
-          cond b (cursorOk (g .columns) (g .rows) q) (cursorOk (w .width) (w .height) q) ≡ true
-      go true e = let i = view-place in let m = view-mode in cursor-true (g .columns) (g .rows) _ (omega arith)
-      go false e =
-          let m = view-mode in
-          let r = view-window g s e in
-          cursor-true (w .width) (w .height) _ (omega (arith, ap (λ (q : View). q .width) r, ap (λ (q : View). q .height) r))
+    view-kept t k =
+        let v = t .view in
+        let m = view-mode in
+        let f =
+        picked-tests g s (cursor (v .left + v .x) (v .top + v .y) (v .mode)) (cursor (v .x) (v .y) (v .mode))
+        (λ _. let i = view-place in omega arith)
+        (λ e.
+        let r = view-window g s e in
+        omega (arith, ap (λ (q : View). q .width) r, ap (λ (q : View). q .height) r)) in
+        whole g _ (cursor-parts g s (parts g s h) (cursorIn s v) (f .0) (f .1))

@@ -1,4 +1,6 @@
 pub mod Room
 pub mod After
 pub mod Parts
+pub mod Sized
+pub mod Guest
 pub mod Joined
