@@ -1,43 +1,49 @@
+-- `commands::define` meets its contract: 15 while held, then 11. Assumes nothing.
 use borrow.Author.Needs.{needs}
+use mathlib.Core.Path.{refl, sym, ap, _∙_}
+use mathlib.Core.Bool.{not}
+use Rattle.paper.specs.declared.Command.the-variants.{Define}
+use Rattle.paper.specs.Carry.{notCarried, ownersOnly, outOfDomain, notDefined, cellExceeds, carriedOut}
+use Rattle.commands.proofs.Answers.{is-15, is-11, is-10, says, ends-at}
 use Rattle.commands.proofs.define.Statement.{statement}
 use Rattle.commands.proofs.define.Tie as tie
-use Rattle.commands.proofs.define.Reads as reads
-use Rattle.commands.proofs.define.Lts as lts
-use Rattle.commands.proofs.ends.Reads as ends-reads
-use Rattle.windows.proofs.define.Reads as define-reads
-use Rattle.windows.proofs.fits_memory.Reads as fits-memory-reads
 
--- src/lib.rt:173:9
 ends-requires : tie.Need-ends-requires
 ends-requires c κs = search needs
 
--- src/lib.rt:173:9
 returns : tie.Need-returns
-returns c = ?
+unfolding notCarried ownersOnly outOfDomain notDefined cellExceeds carriedOut
+returns c font = says (c .ends .ensures) (is-15 _ font _ (Define _ _ _ _ _) refl (sym (c .before .before .pre .0) ∙ c .before .if1 .taken))
 
--- src/lib.rt:175:8
 fits-memory-requires : tie.Need-fits-memory-requires
 fits-memory-requires c κs = search needs
 
--- src/lib.rt:177:13
 define-requires : tie.Need-define-requires
 define-requires c κs = search needs
 
--- src/lib.rt:176:9
 ends-requires-2 : tie.Need-ends-requires-2
 ends-requires-2 c κs = search needs
 
--- src/lib.rt:176:9
 returns-2 : tie.Need-returns-2
-returns-2 c = ?
+unfolding notCarried ownersOnly outOfDomain notDefined cellExceeds carriedOut
+returns-2 c font = says (ends-at (c .ends2 .ensures) (c .before .define .ensures))
+    (is-10 _ font _ (Define _ _ _ _ _)
+    (record {
+      carried = refl;
+      owner = sym (c .before .before .before .before .before .pre .0) ∙ c .before .before .before .before .if1 .left;
+      domain = ap not (sym (c .before .before .before .fits-memory .ensures) ∙ c .before .before .if2 .taken);
+      defined = refl;
+      room = refl;
+    }))
 
--- src/lib.rt:181:5
 ends-requires-3 : tie.Need-ends-requires-3
 ends-requires-3 c κs = search needs
 
--- src/lib.rt:159:1
 returns-3 : tie.Need-returns-3
-returns-3 c = ?
+unfolding notCarried ownersOnly outOfDomain notDefined cellExceeds carriedOut
+returns-3 c font = says (c .ends3 .ensures)
+    (is-11 _ font _ (Define _ _ _ _ _) refl (sym (c .before .before .before .before .pre .0) ∙ c .before .before .before .if1 .left)
+    (ap not (sym (c .before .before .fits-memory .ensures) ∙ c .before .if2 .left)))
 
 pub define-spec : {M : Type 1} → statement M
 define-spec =

@@ -1,35 +1,45 @@
+-- `commands::enlarge` meets its contract. Assumes nothing.
 use borrow.Author.Needs.{needs}
+use mathlib.Core.Path.{refl, sym, ap, _∙_}
+use mathlib.Core.Bool.{not}
+use Rattle.paper.specs.declared.Command.the-variants.{Enlarge}
+use Rattle.paper.specs.Carry.{notCarried, ownersOnly, outOfDomain, notDefined, cellExceeds, carriedOut}
+use Rattle.commands.proofs.Answers.{is-11, is-10, says, ends-at}
+use Rattle.paper.specs.declared.Settings.{Settings}
+use Rattle.paper.specs.Settings.{withSettings}
 use Rattle.commands.proofs.enlarge.Statement.{statement}
 use Rattle.commands.proofs.enlarge.Tie as tie
-use Rattle.commands.proofs.enlarge.Reads as reads
-use Rattle.commands.proofs.enlarge.Lts as lts
-use Rattle.commands.proofs.ends.Reads as ends-reads
-use Rattle.windows.proofs.enlarge.Reads as enlarge-reads
-use Rattle.windows.proofs.in_enlargement.Reads as in-enlargement-reads
 
--- src/lib.rt:135:8
 in-enlargement-requires : tie.Need-in-enlargement-requires
 in-enlargement-requires c κs = search needs
 
--- src/lib.rt:137:13
 enlarge-requires : tie.Need-enlarge-requires
 enlarge-requires c κs = search needs
 
--- src/lib.rt:138:9
 ends-requires : tie.Need-ends-requires
 ends-requires c κs = search needs
 
--- src/lib.rt:138:9
 returns : tie.Need-returns
-returns c = ?
+unfolding notCarried ownersOnly outOfDomain notDefined cellExceeds carriedOut
+returns c font = says
+    (ends-at (c .ends .ensures)
+    (ap (λ (v : Settings). withSettings (c .before .before .before .before .before .before .before .before .args .s) v) (c .before .before .before .before .enlarge .ensures)))
+    (is-10 _ font _ (Enlarge _ _)
+    (record {
+      carried = refl;
+      owner = refl;
+      domain = ap not (sym (c .before .before .before .before .before .before .before .in-enlargement .ensures) ∙ c .before .before .before .before .before .before .if1 .taken);
+      defined = refl;
+      room = refl;
+    }))
 
--- src/lib.rt:140:5
 ends-requires-2 : tie.Need-ends-requires-2
 ends-requires-2 c κs = search needs
 
--- src/lib.rt:131:1
 returns-2 : tie.Need-returns-2
-returns-2 c = ?
+unfolding notCarried ownersOnly outOfDomain notDefined cellExceeds carriedOut
+returns-2 c font = says (c .ends2 .ensures)
+    (is-11 _ font _ (Enlarge _ _) refl refl (ap not (sym (c .before .before .in-enlargement .ensures) ∙ c .before .if1 .left)))
 
 pub enlarge-spec : {M : Type 1} → statement M
 enlarge-spec =

@@ -1,46 +1,61 @@
+-- `commands::select` meets its contract: 15 while held, then 11, then 17. Assumes nothing.
 use borrow.Author.Needs.{needs}
+use mathlib.Core.Path.{refl, sym, ap, _∙_}
+use mathlib.Core.Bool.{not}
+use borrow.Author.Tests.{lt-ltb, le-ltb}
+use Rattle.paper.specs.declared.Command.the-variants.{Select}
+use Rattle.paper.specs.Carry.{notCarried, ownersOnly, outOfDomain, notDefined, cellExceeds, carriedOut}
+use Rattle.commands.proofs.Answers.{is-15, is-11, is-17, is-10, says}
 use Rattle.commands.proofs.select.Statement.{statement}
 use Rattle.commands.proofs.select.Tie as tie
-use Rattle.commands.proofs.select.Reads as reads
-use Rattle.commands.proofs.select.Lts as lts
-use Rattle.commands.proofs.ends.Reads as ends-reads
-use Rattle.windows.proofs.is_selectable.Reads as is-selectable-reads
 
--- src/lib.rt:91:9
 ends-requires : tie.Need-ends-requires
 ends-requires c κs = search needs
 
--- src/lib.rt:91:9
 returns : tie.Need-returns
-returns c = ?
+unfolding notCarried ownersOnly outOfDomain notDefined cellExceeds carriedOut
+returns c font = says (c .ends .ensures) (is-15 _ font _ (Select _) refl (sym (c .before .before .pre) ∙ c .before .if1 .taken))
 
--- src/lib.rt:94:9
 ends-requires-2 : tie.Need-ends-requires-2
 ends-requires-2 c κs = search needs
 
--- src/lib.rt:94:9
 returns-2 : tie.Need-returns-2
-returns-2 c = ?
+unfolding notCarried ownersOnly outOfDomain notDefined cellExceeds carriedOut
+returns-2 c font = says (c .ends2 .ensures)
+    (is-11 _ font _ (Select _) refl (sym (c .before .before .before .pre) ∙ c .before .before .if1 .left)
+    (lt-ltb 4 _ (c .before .if2 .taken)))
 
--- src/lib.rt:97:8
 is-selectable-requires : tie.Need-is-selectable-requires
 is-selectable-requires c κs = search needs
 
--- src/lib.rt:98:9
 ends-requires-3 : tie.Need-ends-requires-3
 ends-requires-3 c κs = search needs
 
--- src/lib.rt:98:9
 returns-3 : tie.Need-returns-3
-returns-3 c = ?
+unfolding notCarried ownersOnly outOfDomain notDefined cellExceeds carriedOut
+returns-3 c font = says (c .ends3 .ensures)
+    (is-10 _ font _ (Select _)
+    (record {
+      carried = refl;
+      owner = sym (c .before .before .before .before .before .before .before .before .before .before .pre)
+          ∙ c .before .before .before .before .before .before .before .before .before .if1 .left;
+      domain = le-ltb 4 _ (c .before .before .before .before .before .before .before .before .if2 .left);
+      defined = ap not
+          (sym (c .before .before .before .before .before .before .is-selectable .ensures)
+          ∙ c .before .before .before .before .before .if3 .taken);
+      room = refl;
+    }))
 
--- src/lib.rt:100:5
 ends-requires-4 : tie.Need-ends-requires-4
 ends-requires-4 c κs = search needs
 
--- src/lib.rt:86:1
 returns-4 : tie.Need-returns-4
-returns-4 c = ?
+unfolding notCarried ownersOnly outOfDomain notDefined cellExceeds carriedOut
+returns-4 c font = says (c .ends4 .ensures)
+    (is-17 _ font _ (Select _) refl
+    (sym (c .before .before .before .before .before .before .pre) ∙ c .before .before .before .before .before .if1 .left)
+    (le-ltb 4 _ (c .before .before .before .before .if2 .left))
+    (ap not (sym (c .before .before .is-selectable .ensures) ∙ c .before .if3 .left)))
 
 pub select-spec : {M : Type 1} → statement M
 select-spec =

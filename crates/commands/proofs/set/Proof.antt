@@ -1,61 +1,69 @@
+-- `commands::set` meets its contract: 14, then 15, then 11. Assumes nothing.
 use borrow.Author.Needs.{needs}
+use mathlib.Core.Path.{refl, sym, ap, ap₂, _∙_}
+use mathlib.Core.Bool.{not, _&&_}
+use Rattle.paper.specs.declared.Command.the-variants.{Set}
+use Rattle.paper.specs.Carry.{notCarried, ownersOnly, outOfDomain, notDefined, cellExceeds, carriedOut}
+use Rattle.commands.proofs.Answers.{is-14, is-15, is-11, is-10, says, ends-at}
+use Rattle.paper.specs.declared.Settings.{Settings}
+use Rattle.paper.specs.Settings.{withSettings}
 use Rattle.commands.proofs.set.Statement.{statement}
 use Rattle.commands.proofs.set.Tie as tie
-use Rattle.commands.proofs.set.Reads as reads
-use Rattle.commands.proofs.set.Lts as lts
-use Rattle.commands.proofs.ends.Reads as ends-reads
-use Rattle.windows.proofs.in_domain.Reads as in-domain-reads
-use Rattle.windows.proofs.is_write.Reads as is-write-reads
-use Rattle.windows.proofs.not_carried_value.Reads as not-carried-value-reads
-use Rattle.windows.proofs.with_setting.Reads as with-setting-reads
 
--- src/lib.rt:116:8
 not-carried-value-requires : tie.Need-not-carried-value-requires
 not-carried-value-requires c κs = search needs
 
--- src/lib.rt:117:9
 ends-requires : tie.Need-ends-requires
 ends-requires c κs = search needs
 
--- src/lib.rt:117:9
 returns : tie.Need-returns
-returns c = ?
+unfolding notCarried ownersOnly outOfDomain notDefined cellExceeds carriedOut
+returns c font = says (c .ends .ensures) (is-14 _ font _ (Set _ _) (sym (c .before .before .not-carried-value .ensures) ∙ c .before .if1 .taken))
 
--- src/lib.rt:119:8
 is-write-requires : tie.Need-is-write-requires
 is-write-requires c κs = search needs
 
--- src/lib.rt:120:9
 ends-requires-2 : tie.Need-ends-requires-2
 ends-requires-2 c κs = search needs
 
--- src/lib.rt:120:9
 returns-2 : tie.Need-returns-2
-returns-2 c = ?
+unfolding notCarried ownersOnly outOfDomain notDefined cellExceeds carriedOut
+returns-2 c font = says (c .ends2 .ensures)
+    (is-15 _ font _ (Set _ _) (sym (c .before .before .before .before .not-carried-value .ensures) ∙ c .before .before .before .if1 .left)
+    (sym (ap₂ _&&_ (c .before .before .is-write .ensures) (c .before .before .before .before .before .pre)) ∙ c .before .if2 .taken))
 
--- src/lib.rt:122:8
 in-domain-requires : tie.Need-in-domain-requires
 in-domain-requires c κs = search needs
 
--- src/lib.rt:124:13
 with-setting-requires : tie.Need-with-setting-requires
 with-setting-requires c κs = search needs
 
--- src/lib.rt:125:9
 ends-requires-3 : tie.Need-ends-requires-3
 ends-requires-3 c κs = search needs
 
--- src/lib.rt:125:9
 returns-3 : tie.Need-returns-3
-returns-3 c = ?
+unfolding notCarried ownersOnly outOfDomain notDefined cellExceeds carriedOut
+returns-3 c font = says
+    (ends-at (c .ends3 .ensures)
+    (ap (λ (v : Settings). withSettings (c .before .before .before .before .before .before .before .before .before .before .before .before .args .s) v) (c .before .before .before .before .with-setting .ensures)))
+    (is-10 _ font _ (Set _ _)
+    (record {
+      carried = sym (c .before .before .before .before .before .before .before .before .before .before .before .not-carried-value .ensures) ∙ c .before .before .before .before .before .before .before .before .before .before .if1 .left;
+      owner = sym (ap₂ _&&_ (c .before .before .before .before .before .before .before .before .before .is-write .ensures) (c .before .before .before .before .before .before .before .before .before .before .before .before .pre)) ∙ c .before .before .before .before .before .before .before .before .if2 .left;
+      domain = ap not (sym (c .before .before .before .before .before .before .before .in-domain .ensures) ∙ c .before .before .before .before .before .before .if3 .taken);
+      defined = refl;
+      room = refl;
+    }))
 
--- src/lib.rt:127:5
 ends-requires-4 : tie.Need-ends-requires-4
 ends-requires-4 c κs = search needs
 
--- src/lib.rt:112:1
 returns-4 : tie.Need-returns-4
-returns-4 c = ?
+unfolding notCarried ownersOnly outOfDomain notDefined cellExceeds carriedOut
+returns-4 c font = says (c .ends4 .ensures)
+    (is-11 _ font _ (Set _ _) (sym (c .before .before .before .before .before .before .not-carried-value .ensures) ∙ c .before .before .before .before .before .if1 .left)
+    (sym (ap₂ _&&_ (c .before .before .before .before .is-write .ensures) (c .before .before .before .before .before .before .before .pre)) ∙ c .before .before .before .if2 .left)
+    (ap not (sym (c .before .before .in-domain .ensures) ∙ c .before .if3 .left)))
 
 pub set-spec : {M : Type 1} → statement M
 set-spec =
