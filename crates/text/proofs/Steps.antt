@@ -1,18 +1,23 @@
--- The steps of a character: a cell and then HT, and the room that is there for the next cell. Assumes nothing.
-use mathlib.Core.Path.{_≡_, refl}
+-- The steps of a character: a cell and then HT, and that a cell can be drawn afterwards. Assumes nothing.
+use mathlib.Core.Path.{_≡_, refl, _∙_}
 use mathlib.Core.List.{List}
 use Prim.Native.Nat.{ℕ}
+use lib.ListN.{length}
 use Rattle.paper.specs.declared.Geometry.{Geometry}
 use Rattle.paper.specs.declared.Span.{Span}
+use Rattle.paper.specs.declared.Style.{Style}
 use Rattle.paper.specs.declared.View.{View}
 use Rattle.paper.specs.Strokes.{Stroke, applied}
+use Rattle.paper.specs.Cells.{cellWidth, cellHeight}
 use Rattle.paper.specs.Moves.{Moved, writing, andThen, htOf}
+use Rattle.dots.specs.Rectangles.{Fits}
 use Rattle.dots.specs.Spans.{markRect}
-use Rattle.kept.specs.Room.{Room, Kept}
+use Rattle.kept.specs.Room.{Usable, Room, Kept}
 use Rattle.kept.proofs.Moves.{kept-room}
 use Rattle.moves.specs.declared.Pen.{Pen}
 use Rattle.moves.specs.Does.{Does}
 use Rattle.moves.proofs.Done.{does-stroke, does-after}
+use Rattle.text.specs.Inked.{Inked}
 
 module _ {g : Geometry} {ps : List Span} {m : List ℕ} where
   -- a stroke made at the cursor and its rectangle marked, then HT
@@ -21,7 +26,11 @@ module _ {g : Geometry} {ps : List Span} {m : List ℕ} where
       → Does g qs m₁ r m₂ (htOf g v c l) → Does g ps m r m₂ (andThen (writing s v) (λ q. htOf g q c l))
   stroke-tab s v c l k h d = does-after _ (λ q. htOf g q c l) (does-stroke s v refl k h) d
 
-  -- where a move that keeps its range ended, a cell has the room that it had
-  pub room-after : {m₁ : List ℕ} {q : Pen} (v : View) (t : Moved) (c l : ℕ) → Does g ps m q m₁ t → Kept v t → Room g v c l
-      → Room g (q .view) c l
-  room-after v t c l d k i = rw (d .view) (kept-room v t g c l i k)
+  -- what drawing asks is still there after a move that keeps its range
+  pub ready-after : {font : List ℕ} {y : Style} {code : ℕ} {m₁ : List ℕ} {q : Pen} (w : ℕ) (v : View) (t : Moved)
+      → Does g ps m q m₁ t → Kept v t → length m₁ ≡ length m
+      → Usable g × (Room g v (cellWidth w y) (cellHeight y) × (Inked font y code × Fits g m))
+      → Usable g × (Room g (q .view) (cellWidth w y) (cellHeight y) × (Inked font y code × Fits g m₁))
+  ready-after {y} w v t d k e ready =
+      let room : Room g (t .view) (cellWidth w y) (cellHeight y) = kept-room v t g (cellWidth w y) (cellHeight y) (ready .1 .0) k in
+      (ready .0, (rw (d .view) room, (ready .1 .1 .0, record { size = e ∙ ready .1 .1 .1 .size; small = ready .1 .1 .1 .small })))

@@ -44,7 +44,7 @@ fn inside(v: View, c: usize, l: usize) -> Part
 
 // Draws the cell of a code at the cursor, then HT.
 fn draw_tab(g: Geometry, mem: &mut [u8], font: &[u8], p: Pen, w: u8, style: Style, code: u8) -> Pen
-    requires { ⌜ Usable g × (Room g (p .view) (cellWidth w style) (cellHeight style) × (Inked (now font) w style code × Fits g (now mem))) ⌝ }
+    requires { ⌜ Usable g × (Room g (p .view) (cellWidth w style) (cellHeight style) × (Inked (now font) style code × Fits g (now mem))) ⌝ }
     ensures { λ r. ⌜ Does g (p .spans) (now (mem .entry)) r (now (mem .exit)) (drawTab g (now (font .entry)) w style code (p .view)) ⌝ }
 {
     let v = p.view;
@@ -93,7 +93,7 @@ pub fn character(
     style: Style,
     code: u8,
 ) -> Pen
-    requires { ⌜ Usable g × (Room g (p .view) (cellWidth w style) (cellHeight style) × (Inked (now font) w style code × Fits g (now mem))) ⌝ }
+    requires { ⌜ Usable g × (Room g (p .view) (cellWidth w style) (cellHeight style) × (Inked (now font) style code × Fits g (now mem))) ⌝ }
     ensures { λ r. ⌜ Does g (p .spans) (now (mem .entry)) r (now (mem .exit)) (characterOf g (now (font .entry)) w style code (p .view)) ⌝ }
 {
     let v = p.view;

@@ -1,6 +1,5 @@
 -- `text::blank_tab` meets its contract. Assumes nothing.
 use mathlib.Core.Path.{_∙_}
-use Prim.Native.Nat.{_+_, _-_, min}
 use native.Mathlib.Omega.{arith}
 use borrow.Author.Needs.{needs}
 use Rattle.paper.specs.Cells.{cellWidth, cellHeight, blankStroke}
@@ -32,9 +31,11 @@ returns c =
     let placed = drawing .before .before in
     let sized = placed .before .before in
     let a = sized .before .before .before .args in
-    stroke-tab (blankStroke (a .w) (a .style) (a .p .view)) (a .p .view) (cellWidth (a .w) (a .style)) (cellHeight (a .style))
+    stroke-tab (blankStroke (a .w) (a .style) (a .p .view)) (a .p .view)
+    (cellWidth (a .w) (a .style)) (cellHeight (a .style))
     (rw (placed .inside .ensures, sized .cell-width .ensures) at (marking .mark .ensures))
-    (rw (placed .inside .ensures, sized .cell-width .ensures) at (drawing .blank .ensures) ∙ blanked-stroke (a .g) _ (a .style) (a .p .view) (a .w))
+    (rw (placed .inside .ensures, sized .cell-width .ensures) at (drawing .blank .ensures)
+    ∙ blanked-stroke (a .g) _ (a .style) (a .p .view) (a .w))
     (rw (sized .cell-width .ensures) at (tabbing .tab .ensures))
 
 pub blank-tab-spec : {M : Type 1} → statement M
