@@ -15,20 +15,20 @@ use Rattle.laws.proofs.Tests.{both-of, between-facts}
 use Rattle.kept.specs.Room.{CellSize}
 
 -- every setting in its domain
-record Domains (v : Settings) : Type 0 where
-  charset : inDomain Charset (v .charset) ≡ true
-  codes : inDomain Codes (v .codes) ≡ true
-  shown : inDomain Shown (v .shown) ≡ true
-  brightness : inDomain Brightness (v .brightness) ≡ true
-  speed : inDomain Speed (v .speed) ≡ true
-  width : inDomain Width (v .width) ≡ true
-  write : inDomain Write (v .write) ≡ true
-  reverse : inDomain Reverse (v .style .reverse) ≡ true
-  mixing : inDomain Mixing (v .style .mixing) ≡ true
-  enlargement : inEnlargement (v .style .across) (v .style .down) ≡ true
+pub record Domains (v : Settings) : Type 0 where
+  pub charset : inDomain Charset (v .charset) ≡ true
+  pub codes : inDomain Codes (v .codes) ≡ true
+  pub shown : inDomain Shown (v .shown) ≡ true
+  pub brightness : inDomain Brightness (v .brightness) ≡ true
+  pub speed : inDomain Speed (v .speed) ≡ true
+  pub width : inDomain Width (v .width) ≡ true
+  pub write : inDomain Write (v .write) ≡ true
+  pub reverse : inDomain Reverse (v .style .reverse) ≡ true
+  pub mixing : inDomain Mixing (v .style .mixing) ≡ true
+  pub enlargement : inEnlargement (v .style .across) (v .style .down) ≡ true
 
 -- that is what the test says
-domains : (v : Settings) → settingsOk v ≡ true → Domains v
+pub domains : (v : Settings) → settingsOk v ≡ true → Domains v
 unfolding settingsOk
 domains v h =
     let charset = both-of (inDomain Charset (v .charset)) _ h in
