@@ -13,7 +13,8 @@ use Rattle.moves.specs.declared.Pen.{Pen}
 use Rattle.moves.specs.Does.{Does, pen}
 
 -- strokes after others work on the memory that those left
-pub apply-append : (g : Geometry) (m : List ℕ) (a b : List Stroke) → applyAll g m (a ++ b) ≡ applyAll g (applyAll g m a) b
+pub apply-append : (g : Geometry) (m : List ℕ) (a b : List Stroke)
+    → applyAll g m (a ++ b) ≡ applyAll g (applyAll g m a) b
 apply-append g m [] b = refl
 apply-append g m (s ∷ a) b = apply-append g (applied g m s) a b
 

@@ -32,5 +32,10 @@ module _ {g : Geometry} {ps : List Span} {m : List ℕ} where
       → Usable g × (Room g v (cellWidth w y) (cellHeight y) × (Inked font y code × Fits g m))
       → Usable g × (Room g (q .view) (cellWidth w y) (cellHeight y) × (Inked font y code × Fits g m₁))
   ready-after {y} w v t d k e ready =
-      let room : Room g (t .view) (cellWidth w y) (cellHeight y) = kept-room v t g (cellWidth w y) (cellHeight y) (ready .1 .0) k in
-      (ready .0, (rw (d .view) room, (ready .1 .1 .0, record { size = e ∙ ready .1 .1 .1 .size; small = ready .1 .1 .1 .small })))
+      let fits = ready .1 .1 .1 in (
+        ready .0,
+        (
+          rw (d .view) (kept-room v t g (cellWidth w y) (cellHeight y) (ready .1 .0) k),
+          (ready .1 .1 .0, record { size = e ∙ fits .size; small = fits .small }),
+        ),
+      )

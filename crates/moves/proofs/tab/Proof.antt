@@ -21,14 +21,16 @@ returns-3 : tie.Need-returns-3
 unfolding htOf
 returns-3 c =
     let tested = c .before .before .before .before in
-    rw (lt-leb _ _ (tested .before .before .if1 .left), ne-eqb _ _ (tested .before .if2 .left), eq-eqb _ _ (tested .if3 .taken))
+    let full = tested .before .before in
+    rw (lt-leb _ _ (full .if1 .left), ne-eqb _ _ (tested .before .if2 .left), eq-eqb _ _ (tested .if3 .taken))
     (c .before .before .next-line-up .ensures)
 
 returns-4 : tie.Need-returns-4
 unfolding htOf
 returns-4 c =
     let tested = c .before .before .before .before in
-    rw (lt-leb _ _ (tested .before .before .if1 .left), ne-eqb _ _ (tested .before .if2 .left), ne-eqb _ _ (tested .if3 .left))
+    let full = tested .before .before in
+    rw (lt-leb _ _ (full .if1 .left), ne-eqb _ _ (tested .before .if2 .left), ne-eqb _ _ (tested .if3 .left))
     (c .before .before .push-left .ensures)
 
 pub tab-spec : {M : Type 1} → statement M

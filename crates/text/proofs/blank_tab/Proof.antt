@@ -1,5 +1,4 @@
 -- `text::blank_tab` meets its contract. Assumes nothing.
-use mathlib.Core.Path.{_∙_}
 use native.Mathlib.Omega.{arith}
 use borrow.Author.Needs.{needs}
 use Rattle.paper.specs.Cells.{cellWidth, cellHeight, blankStroke}
@@ -34,8 +33,11 @@ returns c =
     stroke-tab (blankStroke (a .w) (a .style) (a .p .view)) (a .p .view)
     (cellWidth (a .w) (a .style)) (cellHeight (a .style))
     (rw (placed .inside .ensures, sized .cell-width .ensures) at (marking .mark .ensures))
-    (rw (placed .inside .ensures, sized .cell-width .ensures) at (drawing .blank .ensures)
-    ∙ blanked-stroke (a .g) _ (a .style) (a .p .view) (a .w))
+    (rw (
+      placed .inside .ensures,
+      sized .cell-width .ensures,
+      blanked-stroke (a .g) (a .mem .now) (a .style) (a .p .view) (a .w),
+    ) at (drawing .blank .ensures))
     (rw (sized .cell-width .ensures) at (tabbing .tab .ensures))
 
 pub blank-tab-spec : {M : Type 1} → statement M

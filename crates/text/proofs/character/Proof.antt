@@ -1,4 +1,5 @@
--- `text::character` meets its contract. Where it does not fit, the wrap keeps its range, so that it can be drawn afterwards. Assumes nothing.
+-- `text::character` meets its contract. Where it does not fit, the wrap keeps its range, so that it can be drawn afterwards.
+-- Assumes nothing.
 use Prim.Native.Nat.{_+_}
 use native.Mathlib.Omega.{arith}
 use borrow.Author.Tests.{le-leb, lt-leb, eq-eqb, ne-eqb}
@@ -55,7 +56,8 @@ returns-3 c =
     let tested = blanking .before .before in
     let sized = tested .before .before in
     let a = sized .before .before .before .before .args in
-    rw (lt-leb (a .p .view .x + cellWidth (a .w) (a .style)) (a .p .view .width) (omega arith), ne-eqb _ _ (tested .if2 .left))
+    let width = cellWidth (a .w) (a .style) in
+    rw (lt-leb (a .p .view .x + width) (a .p .view .width) (omega arith), ne-eqb _ _ (tested .if2 .left))
     (does-after (blankTab (a .g) (a .w) (a .style) (a .p .view)) (drawTab (a .g) (a .font .now) (a .w) (a .style) (a .code))
     (blanking .blank-tab .ensures) (c .before .before .draw-tab3 .ensures))
 

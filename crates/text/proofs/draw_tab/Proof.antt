@@ -1,5 +1,4 @@
 -- `text::draw_tab` meets its contract. Assumes nothing.
-use mathlib.Core.Path.{_∙_}
 use native.Mathlib.Omega.{arith}
 use borrow.Author.Needs.{needs}
 use Rattle.paper.specs.Cells.{cellWidth, cellHeight, drawStroke}
@@ -34,8 +33,11 @@ returns c =
     stroke-tab (drawStroke (a .font .now) (a .w) (a .style) (a .code) (a .p .view)) (a .p .view)
     (cellWidth (a .w) (a .style)) (cellHeight (a .style))
     (rw (placed .inside .ensures, sized .cell-width .ensures) at (marking .mark .ensures))
-    (rw (placed .inside .ensures, sized .cell-width .ensures) at (drawing .draw .ensures)
-    ∙ drawn-stroke (a .g) _ (a .style) (a .p .view) (a .font .now) (a .w) (a .code))
+    (rw (
+      placed .inside .ensures,
+      sized .cell-width .ensures,
+      drawn-stroke (a .g) (a .mem .now) (a .style) (a .p .view) (a .font .now) (a .w) (a .code),
+    ) at (drawing .draw .ensures))
     (rw (sized .cell-width .ensures) at (tabbing .tab .ensures))
 
 pub draw-tab-spec : {M : Type 1} → statement M
