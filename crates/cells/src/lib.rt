@@ -1,6 +1,6 @@
 // Cells: glyph, blank dot, enlargement, reverse, mixing. Draws one cell, stores one image byte.
 // It may use the paper, its laws and the dots, and it knows nothing of cursors and windows.
-// Inside it works in bytes: a glyph's column is fetched, placed, stretched and reversed once, then mixed in as often as it is repeated.
+// Inside it works in bytes: a glyph's column is fetched, placed, stretched and reversed once, then mixed in across.
 use paper::Geometry;
 use paper::Style;
 ghost use mathlib.Core.Path.{_≡_};
@@ -141,7 +141,8 @@ fn mix(g: Geometry, mem: &mut [u8], style: Style, x: usize, y: usize, v: u8)
     ensures { λ _. ⌜ now (mem .exit) ≡ mixedAt g style x y v (now (mem .entry)) ⌝ }
 {
     let a = dots::at(g, x, y);
-    mem[a] = mixed(style, v, mem[a]);
+    let b = mixed(style, v, mem[a]);
+    dots::put(g, mem, x, y, b);
 }
 
 // Mixes a column into memory, as many rows of it as the rectangle has.

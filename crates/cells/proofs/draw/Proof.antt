@@ -1,6 +1,6 @@
 -- `cells::draw` meets its contract. The loop's invariant: the first j columns are mixed in, and the walk is at column j.
 -- Assumes nothing.
-use mathlib.Core.Path.{_≡_, refl, _∙_}
+use mathlib.Core.Path.{_≡_, refl}
 use Prim.Native.Nat.{_≤_, _-_}
 use borrow.Author.Needs.{needs}
 use native.Mathlib.Omega.{arith}
@@ -35,8 +35,8 @@ loop-again c =
       omega arith,
       omega (arith, c .before .before .mix-column .kept .1 .0),
       walked .0,
-      c .before .before .mix-column .ensures
-          ∙ cell-turn _ _ _ _ _ _ _ _ _ _ (head .inv .3) (λ r h. walked-row _ _ _ _ _ _ _ (walked .0) (walked .1) r (omega arith)),
+      cell-turn _ _ _ _ _ _ _ _ _ _ _ (head .inv .3) (λ r h. walked-row _ _ _ _ _ _ _ (walked .0) (walked .1) r (omega arith))
+          (c .before .before .mix-column .ensures),
     )
 
 returns : tie.Need-returns Inv-loop μ-loop
