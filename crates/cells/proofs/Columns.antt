@@ -6,10 +6,9 @@ use mathlib.Core.List.{List}
 use Prim.Native.Nat.{ℕ, zero, suc, _+_, _*_, _<_, _≤_}
 use native.Mathlib.Nat.{le-antisymm}
 use native.Mathlib.Omega.{arith}
+use lib.ListN.{getD}
 use Rattle.paper.specs.declared.Geometry.{Geometry}
 use Rattle.paper.specs.declared.Style.{Style}
-use lib.Dec.{eqb}
-use lib.ListN.{getD}
 use Rattle.paper.specs.Panel.{address, dot, byteOf}
 use Rattle.paper.specs.Strokes.{rectMap}
 use Rattle.paper.specs.Cells.{Dots, enlargedDots, penned}

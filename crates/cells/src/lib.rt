@@ -117,7 +117,8 @@ fn column(font: &[u8], code: u8, w: u8, style: Style, row: usize, k: usize) -> T
 
 // One column on: the column at hand once more, or the next after it was drawn as often as it is repeated.
 fn next(font: &[u8], code: u8, w: u8, style: Style, row: usize, walk: Walk) -> Walk
-    requires { ⌜ (length (now font) ≡ fontLength) × (0x20 ≤ code) × (walk .times ≤ style .across) × (walk .index + 1 < 2 ^ 64) ⌝ }
+    requires { ⌜ (length (now font) ≡ fontLength) × (0x20 ≤ code) ⌝ }
+    requires { ⌜ (walk .times ≤ style .across) × (walk .index + 1 < 2 ^ 64) ⌝ }
     ensures { λ r. ⌜ r ≡ nextOf (now (font .entry)) code w style row walk ⌝ }
 {
     let times = walk.times;
@@ -181,7 +182,9 @@ pub fn draw(
     width: usize,
     height: usize,
 )
-    requires { ⌜ Within g left top width height × Fits g (now mem) × (length (now font) ≡ fontLength) × (0x20 ≤ code) × (1 ≤ style .across) × (style .down ≤ 2) × (height ≤ style .down) ⌝ }
+    requires { ⌜ Within g left top width height × Fits g (now mem) ⌝ }
+    requires { ⌜ (length (now font) ≡ fontLength) × (0x20 ≤ code) ⌝ }
+    requires { ⌜ (1 ≤ style .across) × (style .down ≤ 2) × (height ≤ style .down) ⌝ }
     ensures { λ _. ⌜ now (mem .exit) ≡ drawn g (now (font .entry)) code w style left top width height (now (mem .entry)) ⌝ }
 {
     let mut walk = Walk {
