@@ -1,4 +1,4 @@
--- Columns mixed into memory: one of its bytes below the other, and one column beside the other until the cell is drawn.
+-- Bytes mixed into memory: one below the other to a column, and one column beside the other until the cell is drawn.
 -- Assumes nothing.
 use mathlib.Core.Path.{_≡_, refl, sym, ap, _∙_}
 use mathlib.Core.Bool.{Bool, true, false, cond}
@@ -14,11 +14,29 @@ use Rattle.paper.specs.Strokes.{rectMap}
 use Rattle.paper.specs.Cells.{Dots, enlargedDots, penned}
 use Rattle.laws.specs.Bytes.{reversedByte, mixedByte, pennedByte}
 use Rattle.laws.proofs.Penned.{penned-dots, penned-byte}
+use Rattle.dots.specs.Rectangles.{stored}
 use Rattle.dots.proofs.Each.{Bytes}
-use Rattle.dots.proofs.Rects.{rect-none, rect-same, rect-beside, rect-below}
+use Rattle.dots.proofs.Rects.{rect-none, rect-same, rect-beside, rect-below, stored-by}
 use Rattle.cells.specs.declared.Tall.{Tall}
 use Rattle.cells.specs.Drawn.{cellMap, imaged}
 use Rattle.cells.specs.Columns.{atRow, mixedAt, mixedColumn}
+
+-- ---- one byte
+
+-- made of the one at its address, and stored there
+pub mixed-by : (g : Geometry) (y : Style) (x top v a u : ℕ) (m m′ : List ℕ) → a ≡ address g x top → u ≡ mixedByte y v (getD m a 0)
+    → m′ ≡ stored g x top u m → m′ ≡ mixedAt g y x top v m
+unfolding mixedAt
+mixed-by g y x top v a u m m′ e k p = p ∙ stored-by g x top _ m u (rw e at k)
+
+-- of an image
+pub imaged-by : (g : Geometry) (y : Style) (x top v u : ℕ) (m m′ : List ℕ) → v < 256 → Bytes m → u ≡ reversedByte y v
+    → m′ ≡ mixedAt g y x top u m → m′ ≡ imaged g y x top v m
+unfolding mixedAt imaged pennedByte
+imaged-by g y x top v u m m′ hv bytes e p = p ∙ rect-same g x top 1 1 _ _ m (λ j r hj hr. same _ (bytes _))
+  where
+    same : (b : ℕ) → b < 256 → mixedByte y u b ≡ penned y (dot v) b
+    same b hb = ap (λ (n : ℕ). mixedByte y n b) e ∙ sym (penned-dots y v b hv hb)
 
 -- ---- one column
 
@@ -53,16 +71,6 @@ module _ (g : Geometry) (y : Style) (x top : ℕ) (t : Tall) (m : List ℕ) wher
       rw (e, q, p)
       (rect-below g x top 1 1 1 _ _ _ m (λ j r b hj hr. ap (λ (v : ℕ). mixedByte y v b) (rows-of t r hr .0))
       (λ j r b hj hr. ap (λ (v : ℕ). mixedByte y v b) (rows-of t r hr .1)))
-
--- ---- one byte of an image
-
-pub imaged-by : (g : Geometry) (y : Style) (x top v u : ℕ) (m m′ : List ℕ) → v < 256 → Bytes m → u ≡ reversedByte y v
-    → m′ ≡ mixedAt g y x top u m → m′ ≡ imaged g y x top v m
-unfolding mixedAt imaged pennedByte
-imaged-by g y x top v u m m′ hv bytes e p = p ∙ rect-same g x top 1 1 _ _ m (λ j r hj hr. same _ (bytes _))
-  where
-    same : (b : ℕ) → b < 256 → mixedByte y u b ≡ penned y (dot v) b
-    same b hb = ap (λ (n : ℕ). mixedByte y n b) e ∙ sym (penned-dots y v b hv hb)
 
 -- ---- a cell
 
