@@ -1,4 +1,4 @@
--- Columns mixed into memory: one of its bytes below the other, and one column beside the other until the cell is drawn.
+-- Bytes mixed into memory: one below the other to a column, and one column beside the other until the cell is drawn.
 -- Assumes nothing.
 use mathlib.Core.Path.{_≡_, refl, sym, ap, _∙_}
 use mathlib.Core.Bool.{Bool, true, false, cond}
@@ -6,20 +6,37 @@ use mathlib.Core.List.{List}
 use Prim.Native.Nat.{ℕ, zero, suc, _+_, _*_, _<_, _≤_}
 use native.Mathlib.Nat.{le-antisymm}
 use native.Mathlib.Omega.{arith}
+use lib.ListN.{getD}
 use Rattle.paper.specs.declared.Geometry.{Geometry}
 use Rattle.paper.specs.declared.Style.{Style}
-use lib.Dec.{eqb}
-use lib.ListN.{getD}
 use Rattle.paper.specs.Panel.{address, dot, byteOf}
 use Rattle.paper.specs.Strokes.{rectMap}
 use Rattle.paper.specs.Cells.{Dots, enlargedDots, penned}
 use Rattle.laws.specs.Bytes.{reversedByte, mixedByte, pennedByte}
 use Rattle.laws.proofs.Penned.{penned-dots, penned-byte}
+use Rattle.dots.specs.Rectangles.{stored}
 use Rattle.dots.proofs.Each.{Bytes}
-use Rattle.dots.proofs.Rects.{rect-none, rect-same, rect-beside, rect-below}
+use Rattle.dots.proofs.Rects.{rect-none, rect-same, rect-beside, rect-below, stored-by}
 use Rattle.cells.specs.declared.Tall.{Tall}
 use Rattle.cells.specs.Drawn.{cellMap, imaged}
 use Rattle.cells.specs.Columns.{atRow, mixedAt, mixedColumn}
+
+-- ---- one byte
+
+-- made of the one at its address, and stored there
+pub mixed-by : (g : Geometry) (y : Style) (x top v a u : ℕ) (m m′ : List ℕ) → a ≡ address g x top → u ≡ mixedByte y v (getD m a 0)
+    → m′ ≡ stored g x top u m → m′ ≡ mixedAt g y x top v m
+unfolding mixedAt
+mixed-by g y x top v a u m m′ e k p = p ∙ stored-by g x top _ m u (rw e at k)
+
+-- of an image
+pub imaged-by : (g : Geometry) (y : Style) (x top v u : ℕ) (m m′ : List ℕ) → v < 256 → Bytes m → u ≡ reversedByte y v
+    → m′ ≡ mixedAt g y x top u m → m′ ≡ imaged g y x top v m
+unfolding mixedAt imaged pennedByte
+imaged-by g y x top v u m m′ hv bytes e p = p ∙ rect-same g x top 1 1 _ _ m (λ j r hj hr. same _ (bytes _))
+  where
+    same : (b : ℕ) → b < 256 → mixedByte y u b ≡ penned y (dot v) b
+    same b hb = ap (λ (n : ℕ). mixedByte y n b) e ∙ sym (penned-dots y v b hv hb)
 
 -- ---- one column
 
@@ -35,32 +52,25 @@ rows-of t (suc r) h = absurd (omega arith)
 
 module _ (g : Geometry) (y : Style) (x top : ℕ) (t : Tall) (m : List ℕ) where
   -- no row of it
-  pub column-none : m ≡ mixedColumn g y x top 0 t m
+  pub column-none : (h : ℕ) → h ≡ 0 → m ≡ mixedColumn g y x top h t m
   unfolding mixedColumn
-  column-none = rect-none g x top 1 0 _ m (λ a i. omega arith)
+  column-none h e = rect-none g x top 1 h _ m (λ a i. omega arith)
 
   -- its first row
-  pub column-one : mixedAt g y x top (t .upper) m ≡ mixedColumn g y x top 1 t m
+  pub column-one : (h : ℕ) (m′ : List ℕ) → h ≡ 1 → m′ ≡ mixedAt g y x top (t .upper) m → m′ ≡ mixedColumn g y x top h t m
   unfolding mixedAt mixedColumn
-  column-one = rect-same g x top 1 1 _ _ m
-      (λ j r hj hr. ap (λ (v : ℕ). mixedByte y v (getD m (address g (x + j) (top + r)) 0)) (rows-of t r hr .0))
+  column-one h m′ e p =
+      rw e (p ∙ rect-same g x top 1 1 _ _ m
+      (λ j r hj hr. ap (λ (v : ℕ). mixedByte y v (getD m (address g (x + j) (top + r)) 0)) (rows-of t r hr .0)))
 
   -- its first row, then its second
-  pub column-two : mixedAt g y x (top + 1) (t .lower) (mixedAt g y x top (t .upper) m) ≡ mixedColumn g y x top 2 t m
+  pub column-two : (h : ℕ) (m′ m″ : List ℕ) → h ≡ 2 → m′ ≡ mixedAt g y x top (t .upper) m
+      → m″ ≡ mixedAt g y x (top + 1) (t .lower) m′ → m″ ≡ mixedColumn g y x top h t m
   unfolding mixedAt mixedColumn
-  column-two =
-      rect-below g x top 1 1 1 _ _ _ m (λ j r b hj hr. ap (λ (v : ℕ). mixedByte y v b) (rows-of t r hr .0))
-      (λ j r b hj hr. ap (λ (v : ℕ). mixedByte y v b) (rows-of t r hr .1))
-
--- ---- one byte of an image
-
-pub imaged-by : (g : Geometry) (y : Style) (x top v u : ℕ) (m : List ℕ) → v < 256 → Bytes m → u ≡ reversedByte y v
-    → mixedAt g y x top u m ≡ imaged g y x top v m
-unfolding mixedAt imaged pennedByte
-imaged-by g y x top v u m hv bytes e = rect-same g x top 1 1 _ _ m (λ j r hj hr. same _ (bytes _))
-  where
-    same : (b : ℕ) → b < 256 → mixedByte y u b ≡ penned y (dot v) b
-    same b hb = ap (λ (n : ℕ). mixedByte y n b) e ∙ sym (penned-dots y v b hv hb)
+  column-two h m′ m″ e p q =
+      rw (e, q, p)
+      (rect-below g x top 1 1 1 _ _ _ m (λ j r b hj hr. ap (λ (v : ℕ). mixedByte y v b) (rows-of t r hr .0))
+      (λ j r b hj hr. ap (λ (v : ℕ). mixedByte y v b) (rows-of t r hr .1)))
 
 -- ---- a cell
 
@@ -70,12 +80,12 @@ inked y cell j r b = pennedByte y (cell j r) b
 
 module _ (g : Geometry) (y : Style) (cell : ℕ → ℕ → ℕ) (left top h : ℕ) (m : List ℕ) where
   -- a column more of a cell
-  pub cell-turn : (j : ℕ) (t : Tall) (cur : List ℕ) → cur ≡ rectMap g left top j h (inked y cell) m
-      → ((r : ℕ) → r < h → atRow t r ≡ reversedByte y (cell j r))
-      → mixedColumn g y (left + j) top h t cur ≡ rectMap g left top (j + 1) h (inked y cell) m
+  pub cell-turn : (j : ℕ) (t : Tall) (cur cur′ : List ℕ) → cur ≡ rectMap g left top j h (inked y cell) m
+      → ((r : ℕ) → r < h → atRow t r ≡ reversedByte y (cell j r)) → cur′ ≡ mixedColumn g y (left + j) top h t cur
+      → cur′ ≡ rectMap g left top (j + 1) h (inked y cell) m
   unfolding mixedColumn pennedByte
-  cell-turn j t cur e k =
-      ap (rectMap g (left + j) top 1 h _) e
+  cell-turn j t cur cur′ e k p =
+      p ∙ ap (rectMap g (left + j) top 1 h _) e
       ∙ rect-beside g left top j 1 h (inked y cell) _ (inked y cell) m (λ i r b hi hr. refl)
       (λ i r b hi hr. ap (λ (v : ℕ). mixedByte y v b) (k r hr) ∙ ap (λ (n : ℕ). inked y cell n r b) (omega arith))
 

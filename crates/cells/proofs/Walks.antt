@@ -1,14 +1,14 @@
 -- A walk over a cell's columns: at column j the glyph's column j / across is at hand. Assumes nothing.
 use mathlib.Core.Path.{_≡_, refl, sym, ap, subst, _∙_}
-use mathlib.Core.Bool.{Bool, true, false, cond}
 use mathlib.Core.List.{List}
 use Prim.Native.Nat.{ℕ, zero, suc, _+_, _*_, _-_, _/_, _<_, _≤_}
 use native.Mathlib.Nat.{add-zero, mul-add-div, div-eq-of-lt}
 use native.Mathlib.Omega.{arith}
-use borrow.Author.Tests.{eqb-true, eqb-false}
-use lib.Dec.{eqb}
+use borrow.Author.Tests.{eq-eqb, ne-eqb}
 use Rattle.paper.specs.declared.Style.{Style}
 use Rattle.laws.specs.Bytes.{reversedByte, cellByte}
+use Rattle.dots.proofs.Tests.{eq-cases}
+use Rattle.cells.specs.declared.Tall.{Tall}
 use Rattle.cells.specs.declared.Walk.{Walk}
 use Rattle.cells.specs.Columns.{atRow, inkColumn, nextOf}
 
@@ -37,25 +37,16 @@ module _ (font : List ℕ) (code w : ℕ) (y : Style) (row j : ℕ) where
       → Walked font code w y row (j + 1) s′ × (1 ≤ s′ .times)
   unfolding nextOf
   walked-next s s′ p h e =
-      subst (λ (u : Walk). Walked font code w y row (j + 1) u × (1 ≤ u .times)) (sym e) (go (eqb (s .times) (y .across)) refl)
-    where
-      after : Bool → Walk
-      after t =
-          cond t (record { column = inkColumn font code w y row (s .index + 1); index = s .index + 1; times = 1 })
-          (record { column = s .column; index = s .index; times = s .times + 1 })
-
-      go : (t : Bool) → eqb (s .times) (y .across) ≡ t → Walked font code w y row (j + 1) (after t) × (1 ≤ after t .times)
-      go true q =
-          let full = eqb-true (s .times) (y .across) q in
-          (record { at-hand = refl; counted = omega arith; short = p; few = omega arith }, omega arith)
-      go false q =
-          let more = eqb-false (s .times) (y .across) q in
-          (record { at-hand = h .at-hand; counted = omega arith; short = omega arith; few = omega arith }, omega arith)
+      subst (λ (u : Walk). Walked font code w y row (j + 1) u × (1 ≤ u .times)) (sym e)
+      (eq-cases (s .times) (y .across)
+      (λ full. rw (eq-eqb _ _ full) (record { at-hand = refl; counted = omega arith; short = p; few = omega arith }, omega arith))
+      (λ more. rw (ne-eqb _ _ more)
+      (record { at-hand = h .at-hand; counted = omega arith; short = omega arith; few = omega arith }, omega arith)))
 
   -- the column at hand is the cell's
   pub walked-row : (s : Walk) → Walked font code w y row (j + 1) s → 1 ≤ s .times → (r : ℕ) → r < 2
       → atRow (s .column) r ≡ reversedByte y (cellByte font code w y row j r)
   walked-row s h p r l =
-      ap (λ (t : _). atRow t r)
+      ap (λ (t : Tall). atRow t r)
       (h .at-hand ∙ ap (inkColumn font code w y row) (sym (quotient (y .across) (s .index) (s .times - 1) j (omega arith) (omega arith))))
       ∙ ink-row r l

@@ -1,6 +1,6 @@
 // Cells: glyph, blank dot, enlargement, reverse, mixing. Draws one cell, stores one image byte.
 // It may use the paper, its laws and the dots, and it knows nothing of cursors and windows.
-// Inside it works in bytes: a glyph's column is fetched, placed, stretched and reversed once, then mixed in as often as it is repeated.
+// Inside it works in bytes: a glyph's column is fetched, placed, stretched and reversed once, then mixed in across.
 use paper::Geometry;
 use paper::Style;
 ghost use mathlib.Core.Path.{_≡_};
@@ -117,7 +117,8 @@ fn column(font: &[u8], code: u8, w: u8, style: Style, row: usize, k: usize) -> T
 
 // One column on: the column at hand once more, or the next after it was drawn as often as it is repeated.
 fn next(font: &[u8], code: u8, w: u8, style: Style, row: usize, walk: Walk) -> Walk
-    requires { ⌜ (length (now font) ≡ fontLength) × (0x20 ≤ code) × (walk .times ≤ style .across) × (walk .index + 1 < 2 ^ 64) ⌝ }
+    requires { ⌜ (length (now font) ≡ fontLength) × (0x20 ≤ code) ⌝ }
+    requires { ⌜ (walk .times ≤ style .across) × (walk .index + 1 < 2 ^ 64) ⌝ }
     ensures { λ r. ⌜ r ≡ nextOf (now (font .entry)) code w style row walk ⌝ }
 {
     let times = walk.times;
@@ -141,7 +142,8 @@ fn mix(g: Geometry, mem: &mut [u8], style: Style, x: usize, y: usize, v: u8)
     ensures { λ _. ⌜ now (mem .exit) ≡ mixedAt g style x y v (now (mem .entry)) ⌝ }
 {
     let a = dots::at(g, x, y);
-    mem[a] = mixed(style, v, mem[a]);
+    let b = mixed(style, v, mem[a]);
+    dots::put(g, mem, x, y, b);
 }
 
 // Mixes a column into memory, as many rows of it as the rectangle has.
@@ -180,7 +182,9 @@ pub fn draw(
     width: usize,
     height: usize,
 )
-    requires { ⌜ Within g left top width height × Fits g (now mem) × (length (now font) ≡ fontLength) × (0x20 ≤ code) × (1 ≤ style .across) × (style .down ≤ 2) × (height ≤ style .down) ⌝ }
+    requires { ⌜ Within g left top width height × Fits g (now mem) ⌝ }
+    requires { ⌜ (length (now font) ≡ fontLength) × (0x20 ≤ code) ⌝ }
+    requires { ⌜ (1 ≤ style .across) × (style .down ≤ 2) × (height ≤ style .down) ⌝ }
     ensures { λ _. ⌜ now (mem .exit) ≡ drawn g (now (font .entry)) code w style left top width height (now (mem .entry)) ⌝ }
 {
     let mut walk = Walk {

@@ -25,13 +25,14 @@ loop-holds : tie.Need-loop-holds Inv-loop μ-loop
 loop-holds c = (omega arith, refl, rect-none _ _ _ _ _ _ _ (λ a i. omega arith))
 
 loop-again : tie.Need-loop-again Inv-loop μ-loop
-loop-again c = (
-  omega arith,
-  omega (arith, c .before .before .mix-column .kept .1 .0),
-  c .before .before .mix-column .ensures
-      ∙ cell-turn _ _ (λ j r. 0) _ _ _ _ _ _ _ (c .before .before .before .before .before .loop .inv .2)
-      (λ r h. either (eqb r 0) _ ∙ c .before .before .before .before .before .before .reversed .ensures),
-)
+loop-again c =
+    let head = c .before .before .before .before .before .loop in
+    let off = c .before .before .before .before .before .before .reversed in (
+      omega arith,
+      omega (arith, c .before .before .mix-column .kept .1 .0),
+      cell-turn _ _ (λ j r. 0) _ _ _ _ _ _ _ _ (head .inv .2) (λ r h. either (eqb r 0) (off .result) ∙ off .ensures)
+          (c .before .before .mix-column .ensures),
+    )
 
 returns : tie.Need-returns Inv-loop μ-loop
 unfolding blanked

@@ -1,6 +1,6 @@
 -- `cells::draw` meets its contract. The loop's invariant: the first j columns are mixed in, and the walk is at column j.
 -- Assumes nothing.
-use mathlib.Core.Path.{_≡_, refl, _∙_}
+use mathlib.Core.Path.{_≡_, refl}
 use Prim.Native.Nat.{_≤_, _-_}
 use borrow.Author.Needs.{needs}
 use native.Mathlib.Omega.{arith}
@@ -25,8 +25,12 @@ abbrev μ-loop : tie.MeasureT-loop
 μ-loop g mem₀ font code w style left top width height walk₀ j₀ mem walk j = width - j
 
 loop-holds : tie.Need-loop-holds Inv-loop μ-loop
-loop-holds c =
-    (omega arith, refl, record { at-hand = c .column .ensures; counted = omega arith; short = omega arith; few = omega arith }, rect-none _ _ _ _ _ _ _ (λ a i. omega arith))
+loop-holds c = (
+  omega arith,
+  refl,
+  record { at-hand = c .column .ensures; counted = omega arith; short = omega arith; few = omega arith },
+  rect-none _ _ _ _ _ _ _ (λ a i. omega arith),
+)
 
 loop-again : tie.Need-loop-again Inv-loop μ-loop
 loop-again c =
@@ -35,15 +39,14 @@ loop-again c =
       omega arith,
       omega (arith, c .before .before .mix-column .kept .1 .0),
       walked .0,
-      c .before .before .mix-column .ensures
-          ∙ cell-turn _ _ _ _ _ _ _ _ _ _ (head .inv .3) (λ r h. walked-row _ _ _ _ _ _ _ (walked .0) (walked .1) r (omega arith)),
+      cell-turn _ _ _ _ _ _ _ _ _ _ _ (head .inv .3) (λ r h. walked-row _ _ _ _ _ _ _ (walked .0) (walked .1) r (omega arith))
+          (c .before .before .mix-column .ensures),
     )
 
 returns : tie.Need-returns Inv-loop μ-loop
 unfolding drawn
 returns c =
     let head = c .before .loop in
-    let start = c .before .before .before .before .before in
     cell-end _ _ (cellByte _ _ _ _ _) _ _ _ _ (cellDot _ _ _ _) _ _ _ (λ a. c .before .before .before .before .slice-known .given a .fits)
     (λ j r h. cell-byte _ (λ n. c .before .before .before .shared-slice-known .given n .fits) _ _ _ _ j r (omega arith) (omega arith))
     (head .inv .3) (head .inv .0) (c .loop-test .left)

@@ -1,5 +1,4 @@
 -- `cells::next` meets its contract, by its test. Assumes nothing.
-use mathlib.Core.Path.{ap}
 use borrow.Author.Needs.{needs}
 use borrow.Author.Tests.{eq-eqb, ne-eqb}
 use Rattle.cells.specs.Columns.{nextOf}

@@ -1,5 +1,4 @@
 -- `cells::store` meets its contract: a byte's dots through reverse and mixing. Assumes nothing.
-use mathlib.Core.Path.{_∙_}
 use borrow.Author.Needs.{needs}
 use Rattle.cells.proofs.Columns.{imaged-by}
 use Rattle.cells.proofs.store.Statement.{statement}
@@ -7,9 +6,9 @@ use Rattle.cells.proofs.store.Tie as tie
 
 returns : tie.Need-returns
 returns c =
-    let start = c .before .before .before .before .before .before in
-    c .before .before .mix .ensures
-    ∙ imaged-by _ _ _ _ _ _ _ (start .fits .v .fits) (λ a. c .before .before .before .before .before .slice-known .given a .fits) (c .before .before .before .reversed .ensures)
+    imaged-by _ _ _ _ _ _ _ _ (c .before .before .before .before .before .before .fits .v .fits)
+    (λ a. c .before .before .before .before .before .slice-known .given a .fits) (c .before .before .before .reversed .ensures)
+    (c .before .before .mix .ensures)
 
 pub store-spec : {M : Type 1} → statement M
 store-spec = tie.close (tie.spec (λ c κs. search needs) (λ c κs. search needs) (λ c. search needs) returns)
