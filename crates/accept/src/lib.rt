@@ -61,7 +61,7 @@ fn settings_ok(v: Settings) -> bool
 fn cursor_ok(width: usize, height: usize, k: Cursor) -> bool
     ensures { λ r. ⌜ r ≡ cursorOk width height k ⌝ }
 {
-    ((k.x as usize) < width) & ((k.y as usize) < height) & ((1 <= k.mode) & (k.mode <= 3))
+    ((k.x as usize) < width) & (((k.y as usize) < height) & ((1 <= k.mode) & (k.mode <= 3)))
 }
 
 // The record of a window that is not defined.
@@ -69,23 +69,17 @@ fn is_blank(w: Window) -> bool
     ensures { λ r. ⌜ r ≡ isBlank w ⌝ }
 {
     let k = w.cursor;
-    (w.left == 0)
-        & (w.top == 0)
-        & (w.width == 0)
-        & (w.height == 0)
-        & (k.x == 0)
-        & (k.y == 0)
-        & (k.mode == 0)
+    let blank_cursor = (k.x == 0) & ((k.y == 0) & (k.mode == 0));
+    (w.left == 0) & ((w.top == 0) & ((w.width == 0) & ((w.height == 0) & blank_cursor)))
 }
 
 // The rectangle has a column and a row, and does not leave the memory.
 pub fn fits(g: Geometry, left: u16, top: u16, width: u16, height: u16) -> bool
     ensures { λ r. ⌜ r ≡ fits g left top width height ⌝ }
 {
-    (1 <= width)
-        & (1 <= height)
-        & ((left as usize) + (width as usize) <= g.columns)
-        & ((top as usize) + (height as usize) <= g.rows)
+    let across = (left as usize) + (width as usize) <= g.columns;
+    let down = (top as usize) + (height as usize) <= g.rows;
+    (1 <= width) & ((1 <= height) & (across & down))
 }
 
 // The window is not defined, or it and its cursor are where they may be.
@@ -130,11 +124,8 @@ fn hold_ok(ws: [Window; 4], selected: u8, hold: Hold) -> bool
             selected: back,
             settings,
         } => {
-            (1 <= window)
-                & (window == selected)
-                & selectable(ws, window)
-                & selectable(ws, back)
-                & settings_ok(settings)
+            let kept = selectable(ws, back) & settings_ok(settings);
+            (1 <= window) & ((window == selected) & (selectable(ws, window) & kept))
         }
     }
 }
@@ -202,7 +193,7 @@ fn half_ok(g: Geometry, half: Half) -> bool
         Half::DefineTo { from } => 0x20 <= from,
         Half::GlyphWidth { code, last } => (0x20 <= code) & (code <= last),
         Half::GlyphByte { code, last, left } => {
-            (0x20 <= code) & (code <= last) & ((1 <= left) & (left <= 7))
+            (0x20 <= code) & ((code <= last) & ((1 <= left) & (left <= 7)))
         }
         Half::Low(word) => word_ok(g, word),
         Half::High { word, .. } => word_ok(g, word),
@@ -213,7 +204,8 @@ fn half_ok(g: Geometry, half: Half) -> bool
             column,
             row,
         } => {
-            is_size(g.columns, width) & is_size(g.rows, height) & (column < width) & (row < height)
+            is_size(g.columns, width)
+                & (is_size(g.rows, height) & ((column < width) & (row < height)))
         }
         Half::EnlargeX => true,
         Half::EnlargeY { .. } => true,

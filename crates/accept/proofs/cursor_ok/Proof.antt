@@ -1,6 +1,6 @@
--- `cursor_ok` meets its contract: the tests are the definition's, grouped from the left. Assumes nothing.
+-- `cursor_ok` meets its contract: the tests are the definition's. Assumes nothing.
+use mathlib.Core.Path.{refl}
 use borrow.Author.Needs.{needs}
-use mathlib.Core.Bool.{and-assoc}
 use Rattle.paper.specs.Bounds.{cursorOk}
 use Rattle.accept.proofs.cursor_ok.Statement.{statement}
 use Rattle.accept.proofs.cursor_ok.Tie as tie
@@ -12,4 +12,4 @@ cursor-ok-spec =
     (tie.spec
     (λ c. search needs)
     (λ c. search needs)
-    (λ c. rw and-assoc))
+    (λ c. refl))

@@ -1,5 +1,4 @@
 -- `half_ok` meets its contract: an arm for each case of what is half read. Assumes nothing.
-use mathlib.Core.Bool.{and-assoc}
 use Rattle.paper.specs.Bounds.{halfOk}
 use Rattle.accept.proofs.half_ok.Statement.{statement}
 use Rattle.accept.proofs.half_ok.Tie as tie
@@ -56,11 +55,11 @@ half-ok-spec =
     (λ c. rw (c .enum-told11 .given .1))
     (λ c. rw (c .before .half2 .given .1))
     (λ c. rw (c .before .half3 .given .1))
-    (λ c. rw (and-assoc, c .before .half4 .given .1))
+    (λ c. rw (c .before .half4 .given .1))
     (λ c. rw (c .before .before .half5 .given .1) (c .word-ok .ensures))
     (λ c. rw (c .before .before .half6 .given .1) (c .word-ok2 .ensures))
     (λ c. rw (c .before .before .before .half7 .given .1, c .before .is-size .ensures, c .is-size2 .ensures))
-    (λ c. rw (and-assoc, and-assoc, c .before .before .before .half8 .given .1, c .before .is-size3 .ensures, c .is-size4 .ensures))
+    (λ c. rw (c .before .before .before .half8 .given .1, c .before .is-size3 .ensures, c .is-size4 .ensures))
     (λ c. rw (c .enum-told12 .given .1))
     (λ c. rw (c .enum-told13 .given .1))
     (λ c. rw (c .enum-told14 .given .1))

@@ -1,5 +1,5 @@
--- `hold_ok` meets its contract: nothing is held, or each test is the definition's. Assumes nothing.
-use mathlib.Core.Bool.{and-assoc}
+-- `hold_ok` meets its contract: nothing is held, or the tests are the definition's. Assumes nothing.
+use mathlib.Core.Path.{refl}
 use Rattle.paper.specs.Bounds.{holdOk}
 use Rattle.accept.proofs.hold_ok.Statement.{statement}
 use Rattle.accept.proofs.hold_ok.Tie as tie
@@ -19,11 +19,8 @@ hold-ok-spec =
     (λ c. rw (c .enum-told .given .1))
     (λ c.
     rw (
-      and-assoc,
-      and-assoc,
-      and-assoc,
       c .before .before .before .before .hold .given .1,
+      c .selectable2 .ensures,
       c .before .before .selectable .ensures,
-      c .before .selectable2 .ensures,
-      c .settings-ok .ensures,
-    )))
+      c .before .settings-ok .ensures,
+    ) refl))
