@@ -1,6 +1,6 @@
 // Whether a state record is accepted: number 8 of document 01, over every field of it.
 // It tests the record alone: memory, font and glass are not in it.
-// It uses the paper alone. `is_accepted` is its one call; each function above it tests one part.
+// It uses the paper alone. `is_accepted` is the call; the tests of a setting, a rectangle and a window's number serve others too.
 ghost use mathlib.Core.Path.{_≡_};
 ghost use Rattle.paper.specs.Bounds.{settingsOk, cursorOk, isBlank, windowOk, windowsOk, holdOk, spanOk, spansOk, wordOk, halfOk, accepted};
 ghost use Rattle.paper.specs.Reading.{between};
@@ -92,6 +92,7 @@ fn window_ok(g: Geometry, w: Window) -> bool
             & cursor_ok(w.width as usize, w.height as usize, k))
 }
 
+// The four user windows.
 fn windows_ok(g: Geometry, ws: [Window; 4]) -> bool
     ensures { λ r. ⌜ r ≡ windowsOk g ws ⌝ }
 {
@@ -137,6 +138,7 @@ fn span_ok(g: Geometry, p: Span) -> bool
     ((p.first == 0) & (p.end == 0)) | ((p.first < p.end) & ((p.end as usize) <= g.columns))
 }
 
+// The spans of the two rows.
 fn spans_ok(g: Geometry, ps: [Span; 2]) -> bool
     ensures { λ r. ⌜ r ≡ spansOk g ps ⌝ }
 {
@@ -150,7 +152,7 @@ fn is_window(a: u8) -> bool
     (1 <= a) & (a <= 4)
 }
 
-// n is a size, in a memory that has `most`.
+// n is an image's size in a memory of `most` columns or rows.
 fn is_size(most: usize, n: u16) -> bool
     ensures { λ r. ⌜ r ≡ between 1 most n ⌝ }
 {
