@@ -45,7 +45,7 @@ fn more_word(word: Word) -> Reading
 fn more_rest(left: u8) -> Reading
     ensures { λ r. ⌜ r ≡ Reading.More (Half.Rest left) ⌝ }
 {
-    Reading::More(Half::Rest { left: left })
+    Reading::More(Half::Rest { left })
 }
 
 // A 16-bit parameter: low byte first.
@@ -190,8 +190,8 @@ fn read_glyph_byte(code: u8, last: u8, left: u8) -> Reading
 {
     if 1 < left {
         return Reading::More(Half::GlyphByte {
-            code: code,
-            last: last,
+            code,
+            last,
             left: left - 1,
         });
     }
@@ -200,7 +200,7 @@ fn read_glyph_byte(code: u8, last: u8, left: u8) -> Reading
     }
     Reading::More(Half::GlyphWidth {
         code: code + 1,
-        last: last,
+        last,
     })
 }
 
@@ -211,7 +211,7 @@ fn read_window_b(a: u8, b: u8) -> Reading
     if b == 0 {
         return Reading::Whole(Command::Cancel(a));
     }
-    more_if(b == 1, Half::Low(Word::WindowLeft { a: a }))
+    more_if(b == 1, Half::Low(Word::WindowLeft { a }))
 }
 
 // A 16-bit parameter that has come whole. An image's size is tested here, with its high byte.
@@ -220,17 +220,13 @@ fn read_word(g: Geometry, word: Word, n: u16) -> Reading
 {
     match word {
         Word::CursorX => more_word(Word::CursorY { x: n }),
-        Word::CursorY { x } => Reading::Whole(Command::CursorSet { x: x, y: n }),
-        Word::WindowLeft { a } => more_word(Word::WindowTop { a: a, left: n }),
-        Word::WindowTop { a, left } => more_word(Word::WindowWidth {
-            a: a,
-            left: left,
-            top: n,
-        }),
+        Word::CursorY { x } => Reading::Whole(Command::CursorSet { x, y: n }),
+        Word::WindowLeft { a } => more_word(Word::WindowTop { a, left: n }),
+        Word::WindowTop { a, left } => more_word(Word::WindowWidth { a, left, top: n }),
         Word::WindowWidth { a, left, top } => more_word(Word::WindowHeight {
-            a: a,
-            left: left,
-            top: top,
+            a,
+            left,
+            top,
             width: n,
         }),
         Word::WindowHeight {
@@ -239,10 +235,10 @@ fn read_word(g: Geometry, word: Word, n: u16) -> Reading
             top,
             width,
         } => Reading::Whole(Command::Define {
-            a: a,
-            left: left,
-            top: top,
-            width: width,
+            a,
+            left,
+            top,
+            width,
             height: n,
         }),
         Word::ImageWidth => more_if(
@@ -251,10 +247,7 @@ fn read_word(g: Geometry, word: Word, n: u16) -> Reading
         ),
         Word::ImageHeight { width } => more_if(
             is_between(1, g.rows, n as usize),
-            Half::ImageKind {
-                width: width,
-                height: n,
-            },
+            Half::ImageKind { width, height: n },
         ),
     }
 }
@@ -265,33 +258,33 @@ fn read_image(width: u16, height: u16, column: u16, row: u16, b: u8) -> Reading
 {
     if (row as usize) + 1 < (height as usize) {
         return Reading::Picture {
-            column: column,
-            row: row,
+            column,
+            row,
             byte: b,
             next: Half::ImageData {
-                width: width,
-                height: height,
-                column: column,
+                width,
+                height,
+                column,
                 row: row + 1,
             },
         };
     }
     if (column as usize) + 1 < (width as usize) {
         return Reading::Picture {
-            column: column,
-            row: row,
+            column,
+            row,
             byte: b,
             next: Half::ImageData {
-                width: width,
-                height: height,
+                width,
+                height,
                 column: column + 1,
                 row: 0,
             },
         };
     }
     Reading::PictureEnd {
-        column: column,
-        row: row,
+        column,
+        row,
         byte: b,
     }
 }
@@ -309,7 +302,7 @@ pub fn read(g: Geometry, half: Half, b: u8) -> Reading
         Half::Pictures => read_pictures(b),
         Half::Characters => read_characters(b),
         Half::Windows => read_windows(b),
-        Half::Value(key) => Reading::Whole(Command::Set { key: key, value: b }),
+        Half::Value(key) => Reading::Whole(Command::Set { key, value: b }),
         Half::Rest { left } => read_rest(left),
         Half::DefineA => more_if(b == 1, Half::DefineFrom),
         Half::DefineFrom => more_if(0x20 <= b, Half::DefineTo { from: b }),
@@ -323,19 +316,19 @@ pub fn read(g: Geometry, half: Half, b: u8) -> Reading
         Half::GlyphWidth { code, last } => more_if(
             (b == 5) | (b == 7),
             Half::GlyphByte {
-                code: code,
-                last: last,
+                code,
+                last,
                 left: b,
             },
         ),
         Half::GlyphByte { code, last, left } => read_glyph_byte(code, last, left),
-        Half::Low(word) => Reading::More(Half::High { word: word, low: b }),
+        Half::Low(word) => Reading::More(Half::High { word, low: b }),
         Half::High { word, low } => read_word(g, word, word16(low, b)),
         Half::ImageKind { width, height } => more_if(
             b == 1,
             Half::ImageData {
-                width: width,
-                height: height,
+                width,
+                height,
                 column: 0,
                 row: 0,
             },
@@ -347,7 +340,7 @@ pub fn read(g: Geometry, half: Half, b: u8) -> Reading
             row,
         } => read_image(width, height, column, row, b),
         Half::EnlargeX => Reading::More(Half::EnlargeY { x: b }),
-        Half::EnlargeY { x } => Reading::Whole(Command::Enlarge { x: x, y: b }),
+        Half::EnlargeY { x } => Reading::Whole(Command::Enlarge { x, y: b }),
         Half::SelectA => Reading::Whole(Command::Select(b)),
         Half::WindowA => more_if(is_between(1, 4, b as usize), Half::WindowB { a: b }),
         Half::WindowB { a } => read_window_b(a, b),
