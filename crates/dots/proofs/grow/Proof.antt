@@ -1,4 +1,4 @@
--- `dots::grow` meets its contract. Assumes nothing.
+-- `dots::grow` meets its contract: an empty span takes the columns, any other is widened. Assumes nothing.
 use borrow.Author.Needs.{needs}
 use borrow.Author.Tests.{eq-eqb, ne-eqb}
 use Rattle.paper.specs.Strokes.{grown}
