@@ -2,7 +2,7 @@
 use mathlib.Core.Path.{_≡_, refl, sym, ap, _∙_}
 use mathlib.Core.Bool.{Bool}
 use mathlib.Core.List.{List, [], _∷_, _++_}
-use Prim.Native.Nat.{ℕ, zero, suc, _+_, _<_, _≤_}
+use Prim.Native.Nat.{ℕ, zero, suc, _+_, _*_, _<_, _≤_}
 use native.Mathlib.Nat.{add-assoc, add-zero, zero-add, le-mul-of-pos-right, mul-comm}
 use native.Mathlib.Numerals.{add-one}
 use native.Mathlib.Omega.{arith}
@@ -193,6 +193,11 @@ pub shown-turn : (g : Geometry) (ps : List Span) (y moved n : ℕ) → y < lengt
 shown-turn g ps y moved n hy e e′ =
     rw (e, e′, add-one, take-suc ps y noSpan hy, shown-append)
     (ap (λ (n : ℕ). shownAll g (take y ps) + n) (sym (add-zero (shown g (getD ps y noSpan)))))
+
+-- "224 at most": no more than the glass has
+pub shown-most : (g : Geometry) (ps : List Span) → shownAll g ps ≤ length ps * g .visible
+shown-most g [] = omega arith
+shown-most g (p ∷ ps) = omega (arith, shown-le g p, shown-most g ps)
 
 -- few enough that a count of them fits a number
 pub visible-small : (g : Geometry) (m glass : List ℕ) → 0 < g .rows → Shows g m glass → g .visible ≤ 65536
