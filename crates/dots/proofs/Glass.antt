@@ -1,8 +1,8 @@
--- The glass: what a refresh makes of it, row by row. Assumes nothing.
+-- The glass: what a refresh makes of it, row by row, and what it counts. Assumes nothing.
 use mathlib.Core.Path.{_≡_, refl, sym, ap, _∙_}
 use mathlib.Core.Bool.{Bool}
 use mathlib.Core.List.{List, [], _∷_, _++_}
-use Prim.Native.Nat.{ℕ, zero, suc, _+_, _<_, _≤_}
+use Prim.Native.Nat.{ℕ, zero, suc, _+_, _*_, _<_, _≤_}
 use native.Mathlib.Nat.{add-assoc, add-zero, zero-add, le-mul-of-pos-right, mul-comm}
 use native.Mathlib.Numerals.{add-one}
 use native.Mathlib.Omega.{arith}
@@ -24,30 +24,38 @@ use Rattle.dots.proofs.Rects.{rect-length, rect-in, rect-out}
 abbrev pub Holds : Span → ℕ → Type 0
 Holds p x = (p .first ≤ x) × (x < p .end)
 
-pub span-facts : (p : Span) (x : ℕ) → T (spanHolds p x) → Holds p x
-span-facts p x t =
-    (leb→le (p .first) x (and-0 (leb (p .first) x) (ltb x (p .end)) t), ltb→lt x (p .end) (and-1 (leb (p .first) x) (ltb x (p .end)) t))
+module _ (p : Span) (x : ℕ) where
+  pub span-facts : T (spanHolds p x) → Holds p x
+  span-facts t = (
+    leb→le (p .first) x (and-0 (leb (p .first) x) (ltb x (p .end)) t),
+    ltb→lt x (p .end) (and-1 (leb (p .first) x) (ltb x (p .end)) t),
+  )
 
-pub span-test : (p : Span) (x : ℕ) → Holds p x → T (spanHolds p x)
-span-test p x h = and-i (leb (p .first) x) (ltb x (p .end)) (le→leb (p .first) x (h .0)) (lt→ltb x (p .end) (h .1))
+  pub span-test : Holds p x → T (spanHolds p x)
+  span-test h = and-i (leb (p .first) x) (ltb x (p .end)) (le→leb (p .first) x (h .0)) (lt→ltb x (p .end) (h .1))
 
--- a visible column of a span is visible
-pub shown-lt : (g : Geometry) (p : Span) (j : ℕ) → j < shown g p → p .first + j < g .visible
-unfolding shown
-shown-lt g p j h = omega arith
+-- x is one of the visible columns of a span
+abbrev Seen : Geometry → Span → ℕ → Type 0
+Seen g p x = (p .first ≤ x) × (x < p .first + shown g p)
 
-pub shown-le : (g : Geometry) (p : Span) → shown g p ≤ g .visible
-unfolding shown
-shown-le g p = omega arith
+module _ (g : Geometry) (p : Span) where
+  -- a visible column of a span is visible
+  pub shown-lt : (j : ℕ) → j < shown g p → p .first + j < g .visible
+  unfolding shown
+  shown-lt j h = omega arith
 
--- the visible columns of a span are those of its columns that are visible
-shown-holds : (g : Geometry) (p : Span) (x : ℕ) → p .first ≤ x → x < p .first + shown g p → Holds p x
-unfolding shown
-shown-holds g p x h k = omega arith
+  pub shown-le : shown g p ≤ g .visible
+  unfolding shown
+  shown-le = omega arith
 
-holds-shown : (g : Geometry) (p : Span) (x : ℕ) → x < g .visible → Holds p x → (p .first ≤ x) × (x < p .first + shown g p)
-unfolding shown
-holds-shown g p x v h = omega arith
+  -- the visible columns of a span are those of its columns that are visible
+  seen-holds : (x : ℕ) → Seen g p x → Holds p x
+  unfolding shown
+  seen-holds x h = omega arith
+
+  holds-seen : (x : ℕ) → x < g .visible → Holds p x → Seen g p x
+  unfolding shown
+  holds-seen x v h = omega arith
 
 -- ---- the first rows' spans
 
@@ -90,36 +98,43 @@ module _ (g : Geometry) (m : List ℕ) (ps : List Span) (glass : List ℕ) where
   refreshed-in a l h = getD-each _ glass a l ∙ cond-yes (covered g ps a) _ _ (covered-test g ps a h)
 
   -- any other is as it was
-  pub refreshed-out : (a : ℕ) → a < length glass → (Covered g ps a → ⊥) → getD (refreshed g m ps glass) a 0 ≡ getD glass a 0
+  pub refreshed-out : (a : ℕ) → a < length glass → (Covered g ps a → ⊥)
+      → getD (refreshed g m ps glass) a 0 ≡ getD glass a 0
   unfolding refreshed
   refreshed-out a l o = getD-each _ glass a l ∙ cond-no (covered g ps a) _ _ (λ t. o (covered-facts g ps a t))
 
-  -- these say all
+  -- these three say all
   pub refreshed-by : (l : List ℕ) → length l ≡ length glass
       → ((a : ℕ) → a < length glass → Covered g ps a → getD l a 0 ≡ getD m a 0)
-      → ((a : ℕ) → a < length glass → (Covered g ps a → ⊥) → getD l a 0 ≡ getD glass a 0) → l ≡ refreshed g m ps glass
+      → ((a : ℕ) → a < length glass → (Covered g ps a → ⊥) → getD l a 0 ≡ getD glass a 0)
+      → l ≡ refreshed g m ps glass
   unfolding refreshed
   refreshed-by l e inside outside =
       each-by _ glass l e
-      (λ a k. test-cases (covered g ps a) (λ t. inside a k (covered-facts g ps a t) ∙ sym (cond-yes (covered g ps a) _ _ t))
+      (λ a k. test-cases (covered g ps a)
+      (λ t. inside a k (covered-facts g ps a t) ∙ sym (cond-yes (covered g ps a) _ _ t))
       (λ t. outside a k (λ h. t (covered-test g ps a h)) ∙ sym (cond-no (covered g ps a) _ _ t)))
 
 -- no span, no change
 pub refreshed-none : (g : Geometry) (m glass : List ℕ) → glass ≡ refreshed g m [] glass
 refreshed-none g m glass = refreshed-by g m [] glass glass refl (λ a l h. absurd (omega arith)) (λ a l o. refl)
 
+-- ---- one row
+
 module _ (g : Geometry) (m : List ℕ) (y : ℕ) (p : Span) (glass : List ℕ) where
   copied-length : length (copied g m y p glass) ≡ length glass
   unfolding copied
   copied-length = rect-length g (p .first) y (shown g p) 1 _ glass
 
-  copied-in : (a : ℕ) → a < length glass → rowOf g a ≡ y → (p .first ≤ columnOf g a) × (columnOf g a < p .first + shown g p) → getD (copied g m y p glass) a 0 ≡ getD m a 0
+  copied-in : (a : ℕ) → a < length glass → rowOf g a ≡ y → Seen g p (columnOf g a)
+      → getD (copied g m y p glass) a 0 ≡ getD m a 0
   unfolding copied
   copied-in a l e h =
       rect-in g (p .first) y (shown g p) 1 _ glass a l (omega arith)
       ∙ ap (λ (t : ℕ). getD m t 0) (sym (at-place g a _ _ (omega arith) (omega arith)))
 
-  copied-out : (a : ℕ) → a < length glass → (rowOf g a ≡ y → (p .first ≤ columnOf g a) × (columnOf g a < p .first + shown g p) → ⊥) → getD (copied g m y p glass) a 0 ≡ getD glass a 0
+  copied-out : (a : ℕ) → a < length glass → (rowOf g a ≡ y → Seen g p (columnOf g a) → ⊥)
+      → getD (copied g m y p glass) a 0 ≡ getD glass a 0
   unfolding copied
   copied-out a l o = rect-out g (p .first) y (shown g p) 1 _ glass a l (λ i. o (omega arith) (i .0, i .1))
 
@@ -128,12 +143,12 @@ refreshed-more : (g : Geometry) (m : List ℕ) (ps : List Span) (y : ℕ) (glass
 refreshed-more g m ps y glass size =
     refreshed-by g m (take (suc y) ps) glass (copied g m y p cur) (copied-length g m y p cur ∙ len)
     (λ a l h. eq-cases (rowOf g a) y
-    (λ e. copied-in g m y p cur a (there a l) e (holds-shown g p (columnOf g a) (column-lt g a (g .visible) (omega arith)) (rw (own a e) at h)))
-    (λ ne. copied-out g m y p cur a (there a l) (λ e i. ne e) ∙ refreshed-in g m (take y ps) glass a l (rw (take-other ps y (rowOf g a) ne) at h)))
+    (λ e. copied-in g m y p cur a (there a l) e (holds-seen g p (columnOf g a) (visible a l) (rw (own a e) at h)))
+    (λ ne. elsewhere a l ne ∙ refreshed-in g m (take y ps) glass a l (rw (take-other ps y (rowOf g a) ne) at h)))
     (λ a l o. eq-cases (rowOf g a) y
-    (λ e. copied-out g m y p cur a (there a l) (λ e′ i. o (rw (own a e) (shown-holds g p (columnOf g a) (i .0) (i .1))))
+    (λ e. copied-out g m y p cur a (there a l) (λ e′ i. o (rw (own a e) (seen-holds g p (columnOf g a) i)))
     ∙ refreshed-out g m (take y ps) glass a l (λ h. nothing a (rw (e, take-past ps y) at h)))
-    (λ ne. copied-out g m y p cur a (there a l) (λ e i. ne e) ∙ refreshed-out g m (take y ps) glass a l (λ h. o (rw (take-other ps y (rowOf g a) ne) h))))
+    (λ ne. elsewhere a l ne ∙ refreshed-out g m (take y ps) glass a l (λ h. o (rw (take-other ps y (rowOf g a) ne) h))))
   where
     p : Span
     p = getD ps y noSpan
@@ -147,16 +162,23 @@ refreshed-more g m ps y glass size =
     there : (a : ℕ) → a < length glass → a < length cur
     there a l = rw len l
 
+    visible : (a : ℕ) → a < length glass → columnOf g a < g .visible
+    visible a l = column-lt g a (g .visible) (omega arith)
+
     own : (a : ℕ) → rowOf g a ≡ y → getD (take (suc y) ps) (rowOf g a) noSpan ≡ p
     own a e = rw e (getD-take (suc y) ps y noSpan (omega arith))
+
+    elsewhere : (a : ℕ) → a < length glass → (rowOf g a ≡ y → ⊥) → getD (copied g m y p cur) a 0 ≡ getD cur a 0
+    elsewhere a l ne = copied-out g m y p cur a (there a l) (λ e i. ne e)
 
     nothing : (a : ℕ) → Holds noSpan (columnOf g a) → ⊥
     nothing a h = omega arith
 
--- one row more
-pub refreshed-turn : (g : Geometry) (m : List ℕ) (ps : List Span) (y : ℕ) (glass cur : List ℕ) → length glass ≡ glassLength g
-    → cur ≡ refreshed g m (take y ps) glass → copied g m y (getD ps y noSpan) cur ≡ refreshed g m (take (y + 1) ps) glass
-refreshed-turn g m ps y glass cur size e = rw (e, add-one) (refreshed-more g m ps y glass size)
+-- a turn of the refresh: one row more
+pub refreshed-turn : (g : Geometry) (m : List ℕ) (ps : List Span) (y : ℕ) (glass cur next : List ℕ)
+    → length glass ≡ glassLength g → cur ≡ refreshed g m (take y ps) glass → next ≡ copied g m y (getD ps y noSpan) cur
+    → next ≡ refreshed g m (take (y + 1) ps) glass
+refreshed-turn g m ps y glass cur next size e e′ = e′ ∙ rw (e, add-one) (refreshed-more g m ps y glass size)
 
 -- ---- what a refresh counts
 
@@ -166,12 +188,18 @@ shown-append g (p ∷ ps) qs =
     ap (λ (n : ℕ). shown g p + n) (shown-append g ps qs) ∙ sym (add-assoc (shown g p) (shownAll g ps) (shownAll g qs))
 
 -- one row more
-pub shown-turn : (g : Geometry) (ps : List Span) (y moved : ℕ) → y < length ps → moved ≡ shownAll g (take y ps)
-    → moved + shown g (getD ps y noSpan) ≡ shownAll g (take (y + 1) ps)
-shown-turn g ps y moved hy e =
-    rw (e, add-one, take-suc ps y noSpan hy, shown-append)
+pub shown-turn : (g : Geometry) (ps : List Span) (y moved n : ℕ) → y < length ps → moved ≡ shownAll g (take y ps)
+    → n ≡ shown g (getD ps y noSpan) → moved + n ≡ shownAll g (take (y + 1) ps)
+shown-turn g ps y moved n hy e e′ =
+    rw (e, e′, add-one, take-suc ps y noSpan hy, shown-append)
     (ap (λ (n : ℕ). shownAll g (take y ps) + n) (sym (add-zero (shown g (getD ps y noSpan)))))
+
+-- "224 at most": no more than the glass has
+pub shown-most : (g : Geometry) (ps : List Span) → shownAll g ps ≤ length ps * g .visible
+shown-most g [] = omega arith
+shown-most g (p ∷ ps) = omega (arith, shown-le g p, shown-most g ps)
 
 -- few enough that a count of them fits a number
 pub visible-small : (g : Geometry) (m glass : List ℕ) → 0 < g .rows → Shows g m glass → g .visible ≤ 65536
-visible-small g m glass h k = omega (arith, rw (mul-comm (g .columns) (g .rows)) at (le-mul-of-pos-right (g .columns) h), k .fits .small)
+visible-small g m glass h k =
+    omega (arith, rw (mul-comm (g .columns) (g .rows)) at (le-mul-of-pos-right (g .columns) h), k .fits .small)

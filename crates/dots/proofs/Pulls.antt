@@ -12,7 +12,9 @@ use Rattle.paper.specs.Strokes.{rectMap}
 use Rattle.dots.specs.Rectangles.{Fits, Within, cleared, pulled, scrolledUp, movedLeft}
 use Rattle.dots.proofs.Tests.{cond-yes, cond-no}
 use Rattle.dots.proofs.Addresses.{address-lt}
-use Rattle.dots.proofs.Rects.{rect-elsewhere, rect-beside, rect-below, row-turn, rect-turn}
+use Rattle.dots.proofs.Rects.{Change, rect-elsewhere, rect-beside, rect-below, row-turn, rect-turn}
+
+-- ---- the turns
 
 module _ (g : Geometry) (m : List ℕ) (fits : Fits g m) (left right down : ℕ) where
   -- a place is in the memory
@@ -21,57 +23,77 @@ module _ (g : Geometry) (m : List ℕ) (fits : Fits g m) (left right down : ℕ)
 
   -- a byte taken from a place that the loop has not come to
   pub pull-row-turn : (y w j : ℕ) (cur : List ℕ) (from to v : ℕ) → Within g left y (w + right) (1 + down) → j < w
-      → cur ≡ pulled g left y j 1 right down m → length cur ≡ length m → from ≡ address g (left + (j + right)) (y + down)
-      → v ≡ getD cur from 0 → to ≡ address g (left + j) y → set cur to v ≡ pulled g left y (j + 1) 1 right down m
+      → cur ≡ pulled g left y j 1 right down m → length cur ≡ length m
+      → from ≡ address g (left + (j + right)) (y + down) → v ≡ getD cur from 0 → to ≡ address g (left + j) y
+      → set cur to v ≡ pulled g left y (j + 1) 1 right down m
   unfolding pulled
   pull-row-turn y w j cur from to v within hj e len ef ev et =
-      row-turn g left y j _ m cur to v et e (omega arith) (rw et (omega (arith, place-in (left + j) y (omega arith) (omega arith))))
-      (ev ∙ still ∙ ap (λ (n : ℕ). getD m (address g (left + (j + right)) (y + n)) 0) (omega arith))
+      row-turn g left y j _ m cur to v et e (omega arith) inside
+      (ev ∙ still ∙ ap (λ (n : ℕ). getD m (address g x (y + n)) 0) (omega arith))
     where
-      still : getD cur from 0 ≡ getD m (address g (left + (j + right)) (y + down)) 0
-      still = rw ef (rect-elsewhere g left y j 1 _ m cur (left + (j + right)) (y + down) e (omega arith) (place-in (left + (j + right)) (y + down) (omega arith) (omega arith)) (λ i. omega arith))
+      x : ℕ
+      x = left + (j + right)
+
+      inside : to < length cur
+      inside = rw et (omega (arith, place-in (left + j) y (omega arith) (omega arith)))
+
+      still : getD cur from 0 ≡ getD m (address g x (y + down)) 0
+      still =
+          rw ef
+          (rect-elsewhere g left y j 1 _ m cur x (y + down) e (omega arith)
+          (place-in x (y + down) (omega arith) (omega arith)) (λ i. omega arith))
 
   -- a row taken from rows that the loop has not come to
-  pub pull-turn : (top w h r : ℕ) (cur : List ℕ) → Within g left top (w + right) (h + down) → r < h
-      → cur ≡ pulled g left top w r right down m
-      → pulled g left (top + r) w 1 right down cur ≡ pulled g left top w (r + 1) right down m
+  pub pull-turn : (top w h r : ℕ) (cur next : List ℕ) → Within g left top (w + right) (h + down) → r < h
+      → cur ≡ pulled g left top w r right down m → next ≡ pulled g left (top + r) w 1 right down cur
+      → next ≡ pulled g left top w (r + 1) right down m
   unfolding pulled
-  pull-turn top w h r cur within hr e = rect-turn g left top w r _ _ m cur e still
+  pull-turn top w h r cur next within hr e e′ = rect-turn g left top w r _ _ m cur next e e′ still
     where
-      still : (j b : ℕ) → j < w → getD cur (address g (left + (j + right)) (top + r + (0 + down))) 0 ≡ getD m (address g (left + (j + right)) (top + (r + down))) 0
-      still j b hj =
-          ap (λ (n : ℕ). getD cur (address g (left + (j + right)) n) 0) (omega arith)
-          ∙ rect-elsewhere g left top w r _ m cur (left + (j + right)) (top + (r + down)) e (omega arith) (place-in (left + (j + right)) (top + (r + down)) (omega arith) (omega arith)) (λ k. omega arith)
+      y : ℕ
+      y = top + (r + down)
 
--- what is left of a size after n of it are gone
+      still : (j b : ℕ) → j < w
+          → let x = left + (j + right) in getD cur (address g x (top + r + (0 + down))) 0 ≡ getD m (address g x y) 0
+      still j b hj =
+          let x = left + (j + right) in
+          ap (λ (n : ℕ). getD cur (address g x n) 0) (omega arith)
+          ∙ rect-elsewhere g left top w r _ m cur x y e (omega arith) (place-in x y (omega arith) (omega arith))
+          (λ k. omega arith)
+
+-- ---- the parts of a move
+
+-- of a size, as much as n says is gone, and the rest is kept
 abbrev pub Parts : ℕ → ℕ → ℕ → ℕ → Type 0
 Parts size n kept gone = (gone ≡ min n size) × (kept + gone ≡ size)
 
-module _ (g : Geometry) (m : List ℕ) (left top w h n kept gone : ℕ) where
-  -- the rows that stay, taken from below, and zeros under them
-  pub scrolled-parts : Parts h n kept gone
-      → cleared g left (top + kept) w gone (pulled g left top w kept 0 gone m) ≡ scrolledUp g left top w h n m
+module _ (g : Geometry) (m cur end : List ℕ) (left top w h n kept gone : ℕ) where
+  -- the rows that are kept, taken from below, and zeros under them
+  pub scrolled-parts : Parts h n kept gone → cur ≡ pulled g left top w kept 0 gone m
+      → end ≡ cleared g left (top + kept) w gone cur → end ≡ scrolledUp g left top w h n m
   unfolding cleared pulled scrolledUp
-  scrolled-parts p =
-      rect-below g left top w kept gone _ _ row m
+  scrolled-parts p e e′ =
+      e′ ∙ ap (rectMap g left (top + kept) w gone (λ j r b. 0)) e
+      ∙ rect-below g left top w kept gone _ _ up m
       (λ j r b hj hr. ap₂ (λ (x y : ℕ). getD m (address g x y) 0) (omega arith) (omega arith)
       ∙ sym (cond-yes (ltb (r + n) h) _ _ (lt→ltb (r + n) h (omega arith))))
       (λ j r b hj hr. sym (cond-no (ltb (kept + r + n) h) _ _ (λ t. let k = ltb→lt (kept + r + n) h t in omega arith)))
-      ∙ ap (λ (k : ℕ). rectMap g left top w k row m) (p .1)
+      ∙ ap (λ (k : ℕ). rectMap g left top w k up m) (p .1)
     where
-      row : ℕ → ℕ → ℕ → ℕ
-      row j r b = cond (ltb (r + n) h) (getD m (address g (left + j) (top + (r + n))) 0) 0
+      up : Change
+      up j r b = cond (ltb (r + n) h) (getD m (address g (left + j) (top + (r + n))) 0) 0
 
-  -- the columns that stay, taken from the right, and zeros beside them
-  pub moved-parts : Parts w n kept gone
-      → cleared g (left + kept) top gone h (pulled g left top kept h gone 0 m) ≡ movedLeft g left top w h n m
+  -- the columns that are kept, taken from the right, and zeros beside them
+  pub moved-parts : Parts w n kept gone → cur ≡ pulled g left top kept h gone 0 m
+      → end ≡ cleared g (left + kept) top gone h cur → end ≡ movedLeft g left top w h n m
   unfolding cleared pulled movedLeft
-  moved-parts p =
-      rect-beside g left top kept gone h _ _ column m
+  moved-parts p e e′ =
+      e′ ∙ ap (rectMap g (left + kept) top gone h (λ j r b. 0)) e
+      ∙ rect-beside g left top kept gone h _ _ over m
       (λ j r b hj hr. ap₂ (λ (x y : ℕ). getD m (address g x y) 0) (omega arith) (omega arith)
       ∙ sym (cond-yes (ltb (j + n) w) _ _ (lt→ltb (j + n) w (omega arith))))
       (λ j r b hj hr. sym (cond-no (ltb (kept + j + n) w) _ _ (λ t. let k = ltb→lt (kept + j + n) w t in omega arith)))
-      ∙ ap (λ (k : ℕ). rectMap g left top k h column m) (p .1)
+      ∙ ap (λ (k : ℕ). rectMap g left top k h over m) (p .1)
     where
-      column : ℕ → ℕ → ℕ → ℕ
-      column j r b = cond (ltb (j + n) w) (getD m (address g (left + (j + n)) (top + r)) 0) 0
+      over : Change
+      over j r b = cond (ltb (j + n) w) (getD m (address g (left + (j + n)) (top + r)) 0) 0

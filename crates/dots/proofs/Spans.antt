@@ -1,4 +1,4 @@
--- Spans: what a rectangle's growth makes of them. Assumes nothing.
+-- Spans: what growth by a stroke, which is growth by its rectangle, makes of them. Assumes nothing.
 use mathlib.Core.Path.{_≡_, refl, sym, ap, ap₂, _∙_}
 use mathlib.Core.Bool.{true, _&&_, and-false, or-true}
 use mathlib.Core.List.{List, [], _∷_, _++_}
@@ -15,6 +15,8 @@ use Rattle.paper.specs.Bounds.{spanOk, spansOk}
 use Rattle.dots.specs.Spans.{grownRect, markRectFrom, markRect}
 use Rattle.dots.proofs.Tests.{eq-cases, cond-cases, and-0, and-true, and-parts}
 
+-- ---- growth by a rectangle
+
 -- growth by a stroke is growth by its rectangle
 pub marked-rect : (ps : List Span) (s : Stroke) → marked ps s ≡ markRect (s .left) (s .top) (s .width) (s .height) ps
 unfolding markRect
@@ -26,7 +28,8 @@ marked-rect ps s = go 0 ps
 
 -- two rows
 pub mark-two : (left top w h : ℕ) (ps : List Span) → length ps ≡ 2
-    → grownRect left top w h 0 (getD ps 0 noSpan) ∷ grownRect left top w h 1 (getD ps 1 noSpan) ∷ [] ≡ markRect left top w h ps
+    → let row : ℕ → Span = λ y. grownRect left top w h y (getD ps y noSpan) in
+    row 0 ∷ row 1 ∷ [] ≡ markRect left top w h ps
 unfolding markRect
 mark-two left top w h [] e = absurd (omega arith)
 mark-two left top w h (p ∷ []) e = absurd (omega arith)
@@ -51,14 +54,17 @@ marks-append ps [] ts = refl
 marks-append ps (s ∷ ss) ts = marks-append (marked ps s) ss ts
 
 -- a row's span afterwards
-pub getD-marked : (s : Stroke) (ps : List Span) (y : ℕ) → y < length ps → getD (marked ps s) y noSpan ≡ grownBy s y (getD ps y noSpan)
+pub getD-marked : (s : Stroke) (ps : List Span) (y : ℕ) → y < length ps
+    → getD (marked ps s) y noSpan ≡ grownBy s y (getD ps y noSpan)
 getD-marked s ps y h = go 0 ps y h ∙ ap (λ (k : ℕ). grownBy s k (getD ps y noSpan)) (zero-add y)
   where
-    go : (i : ℕ) (ps : List Span) (k : ℕ) → k < length ps → getD (markFrom s i ps) k noSpan ≡ grownBy s (i + k) (getD ps k noSpan)
+    go : (i : ℕ) (ps : List Span) (k : ℕ) → k < length ps
+        → getD (markFrom s i ps) k noSpan ≡ grownBy s (i + k) (getD ps k noSpan)
     go i [] k h = absurd (not-suc-le-zero h)
     go i (p ∷ ps) zero h = ap (λ (k : ℕ). grownBy s k p) (sym (add-zero i))
     go i (p ∷ ps) (suc k) h =
-        go (suc i) ps k (le-of-suc-le-suc h) ∙ ap (λ (n : ℕ). grownBy s n (getD ps k noSpan)) (suc-add i k ∙ sym (add-suc i k))
+        go (suc i) ps k (le-of-suc-le-suc h)
+        ∙ ap (λ (n : ℕ). grownBy s n (getD ps k noSpan)) (suc-add i k ∙ sym (add-suc i k))
 
 -- ---- bounds
 
@@ -71,28 +77,33 @@ span-within g p e =
 
 span-made : (g : Geometry) (first end : ℕ) → first < end → end ≤ g .columns → spanOk g (spanOf first end) ≡ true
 unfolding spanOk
-span-made g first end hf he = rw (lt-ltb first end hf, le-leb end (g .columns) he) (or-true (eqb first 0 && eqb end 0))
+span-made g first end hf he =
+    rw (lt-ltb first end hf, le-leb end (g .columns) he) (or-true (eqb first 0 && eqb end 0))
 
 -- columns inside the memory keep a span in its bounds
-pub grown-ok : (g : Geometry) (p : Span) (first end : ℕ) → spanOk g p ≡ true → first < end → end ≤ g .columns → spanOk g (grown p first end) ≡ true
+pub grown-ok : (g : Geometry) (p : Span) (first end : ℕ) → spanOk g p ≡ true → first < end → end ≤ g .columns
+    → spanOk g (grown p first end) ≡ true
 unfolding grown
 grown-ok g p first end e hf he =
     let hp = span-within g p e in
     cond-cases (λ (q : Span). spanOk g q ≡ true) (isNothing p) (λ t. span-made g first end hf he)
     (λ t. span-made g (min (p .first) first) (max (p .end) end) (omega arith) (omega arith))
 
--- a rectangle inside the memory keeps all of them so
-pub marked-ok : (g : Geometry) (s : Stroke) (ps : List Span) → s .left + s .width ≤ g .columns → spansOk g ps ≡ true → spansOk g (marked ps s) ≡ true
+grown-by-ok : (g : Geometry) (s : Stroke) (y : ℕ) (p : Span) → s .left + s .width ≤ g .columns → spanOk g p ≡ true
+    → spanOk g (grownBy s y p) ≡ true
+unfolding grownBy
+grown-by-ok g s y p h e =
+    cond-cases (λ (q : Span). spanOk g q ≡ true) (ltb 0 (s .width) && among (s .top) (s .height) y)
+    (λ t. let wide = ltb→lt 0 (s .width) (and-0 (ltb 0 (s .width)) (among (s .top) (s .height) y) t) in
+    grown-ok g p (s .left) (s .left + s .width) e (omega arith) h) (λ t. e)
+
+-- a stroke inside the memory keeps all of them so
+pub marked-ok : (g : Geometry) (s : Stroke) (ps : List Span) → s .left + s .width ≤ g .columns → spansOk g ps ≡ true
+    → spansOk g (marked ps s) ≡ true
 marked-ok g s ps h e = go 0 ps e
   where
-    row : (y : ℕ) (p : Span) → spanOk g p ≡ true → spanOk g (grownBy s y p) ≡ true
-    row y p k =
-        unfold grownBy in
-        cond-cases (λ (q : Span). spanOk g q ≡ true) (ltb 0 (s .width) && among (s .top) (s .height) y)
-        (λ t. let w = ltb→lt 0 (s .width) (and-0 (ltb 0 (s .width)) (among (s .top) (s .height) y) t) in grown-ok g p (s .left) (s .left + s .width) k (omega arith) h) (λ t. k)
-
     go : (y : ℕ) (ps : List Span) → spansOk g ps ≡ true → spansOk g (markFrom s y ps) ≡ true
     go y [] k = refl
     go y (p ∷ ps) k =
         let ks = and-parts (spanOk g p) (spansOk g ps) k in
-        and-true (spanOk g (grownBy s y p)) _ (row y p (ks .0)) (go (suc y) ps (ks .1))
+        and-true (spanOk g (grownBy s y p)) _ (grown-by-ok g s y p h (ks .0)) (go (suc y) ps (ks .1))

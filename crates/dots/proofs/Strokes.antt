@@ -8,9 +8,8 @@ use Rattle.paper.specs.declared.View.{View}
 use Rattle.paper.specs.Panel.{address, columnOf, rowOf}
 use Rattle.paper.specs.Strokes.{Stroke, rectMap, applied, applyAll}
 use Rattle.paper.specs.Cells.{clearStroke, eraseStroke, upStroke, leftStroke}
-use Rattle.dots.specs.Rectangles.{cleared, scrolledUp, movedLeft}
-use Rattle.dots.proofs.Each.{Bytes}
-use Rattle.dots.proofs.Rects.{InRect, rect-length, rect-in, rect-out, rect-same, rect-bytes}
+use Rattle.dots.specs.Rectangles.{Bytes, cleared, scrolledUp, movedLeft}
+use Rattle.dots.proofs.Rects.{Change, InRect, rect-length, rect-in, rect-out, rect-same, rect-bytes}
 
 -- ---- the leaves
 
@@ -52,9 +51,9 @@ module _ (g : Geometry) (m : List ℕ) (s : Stroke) where
   applied-out = rect-out g (s .left) (s .top) (s .width) (s .height) (s .byte m) m
 
   -- bytes that agree with the stroke's inside its rectangle give the same memory
-  pub applied-same : (f : ℕ → ℕ → ℕ → ℕ)
+  pub applied-same : (f : Change)
       → ((j r : ℕ) → j < s .width → r < s .height
-      → f j r (getD m (address g (s .left + j) (s .top + r)) 0) ≡ s .byte m j r (getD m (address g (s .left + j) (s .top + r)) 0))
+      → let b = getD m (address g (s .left + j) (s .top + r)) 0 in f j r b ≡ s .byte m j r b)
       → rectMap g (s .left) (s .top) (s .width) (s .height) f m ≡ applied g m s
   applied-same f = rect-same g (s .left) (s .top) (s .width) (s .height) f (s .byte m) m
 
@@ -63,7 +62,8 @@ module _ (g : Geometry) (m : List ℕ) (s : Stroke) where
 
 -- ---- strokes in a row
 
-pub apply-append : (g : Geometry) (m : List ℕ) (ss ts : List Stroke) → applyAll g m (ss ++ ts) ≡ applyAll g (applyAll g m ss) ts
+pub apply-append : (g : Geometry) (m : List ℕ) (ss ts : List Stroke)
+    → applyAll g m (ss ++ ts) ≡ applyAll g (applyAll g m ss) ts
 apply-append g m [] ts = refl
 apply-append g m (s ∷ ss) ts = apply-append g (applied g m s) ss ts
 

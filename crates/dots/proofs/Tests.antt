@@ -28,10 +28,6 @@ eq-cases a b {P} same other = go (eqb a b) refl
 
 -- ---- tests as equations
 
-pub is-true : (t : Bool) → T t → t ≡ true
-is-true true h = refl
-is-true false h = absurd h
-
 pub is-false : (t : Bool) → (T t → ⊥) → t ≡ false
 is-false true h = absurd (h tt)
 is-false false h = refl

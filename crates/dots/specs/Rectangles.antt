@@ -1,9 +1,9 @@
--- What the leaves ask of a memory and a rectangle, and what they make of the memory: each a name for an expression of the paper.
--- Assumes nothing.
+-- What the functions on memory ask of it and of a rectangle, and what they make of it: each a name for an expression of
+-- the paper. Assumes nothing.
 use mathlib.Core.Path.{_≡_}
 use mathlib.Core.Bool.{cond}
 use mathlib.Core.List.{List}
-use Prim.Native.Nat.{ℕ, _+_, _≤_}
+use Prim.Native.Nat.{ℕ, _+_, _≤_, _<_}
 use lib.Dec.{ltb}
 use lib.ListN.{length, getD}
 use Rattle.paper.specs.declared.Geometry.{Geometry}
@@ -14,6 +14,10 @@ use Rattle.paper.specs.Strokes.{rectMap}
 pub record Fits (g : Geometry) (m : List ℕ) : Type 0 where
   pub size : length m ≡ memoryLength g
   pub small : memoryLength g ≤ 65536
+
+-- every number of the list is a byte
+abbrev pub Bytes : List ℕ → Type 0
+Bytes m = (a : ℕ) → getD m a 0 < 256
 
 -- the rectangle lies in the memory
 pub record Within (g : Geometry) (left top width height : ℕ) : Type 0 where

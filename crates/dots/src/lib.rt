@@ -1,6 +1,6 @@
-// Dots: the memory as bytes at rows·x + y. Rectangles are cleared and moved, spans of it are copied to the glass, spans grow.
+// Dots: the memory as bytes at rows·x + y. Rectangles are cleared and moved, spans grow and are copied to the glass.
+// Each contract gives the whole memory, or the whole glass, afterwards.
 // It may use the paper alone, and it knows nothing of characters, windows or the state.
-// Each function's contract gives the whole memory, or the whole glass, afterwards.
 use paper::Geometry;
 use paper::Span;
 ghost use mathlib.Core.Path.{_≡_};
@@ -48,8 +48,8 @@ pub fn least(a: usize, b: usize) -> usize
     if a < b { a } else { b }
 }
 
-// Each column of one row takes the byte `right` columns right of it and `down` rows below. From the left, so that no byte is
-// taken after it was stored.
+// Each column of one row takes the byte `right` columns right of it and `down` rows below. It goes from the left, so
+// that no byte is taken after another was stored over it.
 fn pull_row(
     g: Geometry,
     mem: &mut [u8],
@@ -229,7 +229,8 @@ pub fn copy_row(g: Geometry, mem: &[u8], glass: &mut [u8], y: usize, p: Span) ->
 // Copies each span's visible columns to the glass. The number of bytes copied.
 pub fn refresh(g: Geometry, mem: &[u8], glass: &mut [u8], spans: [Span; 2]) -> usize
     requires { ⌜ (2 ≤ g .rows) × Shows g (now mem) (now glass) ⌝ }
-    ensures { λ n. ⌜ (now (glass .exit) ≡ refreshed g (now (mem .entry)) spans (now (glass .entry))) × (n ≡ shownAll g spans) ⌝ }
+    ensures { λ n. ⌜ (now (glass .exit) ≡ refreshed g (now (mem .entry)) spans (now (glass .entry)))
+        × (n ≡ shownAll g spans) ⌝ }
 {
     let mut moved = 0;
     for y in 0..2 {

@@ -9,11 +9,12 @@ use Rattle.paper.specs.declared.Geometry.{Geometry}
 use Rattle.paper.specs.declared.Span.{Span}
 use Rattle.paper.specs.Strokes.{Stroke, inRect, applied, applyAll, marked, markAll}
 use Rattle.paper.specs.Bounds.{spansOk}
+use Rattle.dots.specs.Rectangles.{Bytes}
 use Rattle.dots.proofs.Tests.{not-both}
 use Rattle.dots.proofs.Rects.{InRect, rect-test}
 use Rattle.dots.proofs.Strokes.{applied-length, applied-out, applied-bytes}
 use Rattle.dots.proofs.Spans.{marked-ok}
-use Rattle.stroke_laws.specs.Kept.{All, Inside, Bytes, MakesBytes}
+use Rattle.stroke_laws.specs.Kept.{All, Inside, MakesBytes}
 
 -- ---- lists of strokes
 

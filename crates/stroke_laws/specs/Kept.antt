@@ -8,6 +8,7 @@ use Rattle.paper.specs.declared.Geometry.{Geometry}
 use Rattle.paper.specs.declared.Span.{Span}
 use Rattle.paper.specs.Panel.{columnOf, rowOf, glassLength}
 use Rattle.paper.specs.Strokes.{Stroke, noSpan, spanHolds}
+use Rattle.dots.specs.Rectangles.{Bytes}
 
 -- every stroke of a list is such
 abbrev pub All : (Stroke → Type 0) → List Stroke → Type 0
@@ -21,10 +22,6 @@ pub record Inside (left top width height : ℕ) (s : Stroke) : Type 0 where
   pub across : s .left + s .width ≤ left + width
   pub down : s .top + s .height ≤ top + height
 
--- every number of the list is a byte
-abbrev pub Bytes : List ℕ → Type 0
-Bytes m = (a : ℕ) → getD m a 0 < 256
-
 -- the stroke makes bytes of bytes
 abbrev pub MakesBytes : Stroke → Type 0
 MakesBytes s = (m : List ℕ) (j r b : ℕ) → Bytes m → b < 256 → s .byte m j r b < 256
@@ -32,4 +29,5 @@ MakesBytes s = (m : List ℕ) (j r b : ℕ) → Bytes m → b < 256 → s .byte 
 -- the glass shows memory at every address that its row's span does not hold
 abbrev pub Synced : Geometry → List ℕ → List ℕ → List Span → Type 0
 Synced g m glass ps =
-    (a : ℕ) → a < glassLength g → spanHolds (getD ps (rowOf g a) noSpan) (columnOf g a) ≡ false → getD glass a 0 ≡ getD m a 0
+    (a : ℕ) → a < glassLength g → spanHolds (getD ps (rowOf g a) noSpan) (columnOf g a) ≡ false
+    → getD glass a 0 ≡ getD m a 0

@@ -7,8 +7,11 @@ use Rattle.dots.proofs.Addresses.{address-lt}
 use Rattle.dots.proofs.at.Statement.{statement}
 use Rattle.dots.proofs.at.Tie as tie
 
-below : (c : tie.After-struct-known) → address (c .before .args .g) (c .before .args .x) (c .before .args .y) < memoryLength (c .before .args .g)
-below c = address-lt (c .before .args .g) (c .before .args .x) (c .before .args .y) (c .before .pre .1) _ (c .before .pre .0)
+below : (c : tie.After-struct-known)
+    → let args = c .before .args in address (args .g) (args .x) (args .y) < memoryLength (args .g)
+below c =
+    let args = c .before .args in
+    address-lt (args .g) (args .x) (args .y) (c .before .pre .1) (args .g .columns) (c .before .pre .0)
 
 mul-result : tie.Need-mul-result
 mul-result c = omega (arith, below c)

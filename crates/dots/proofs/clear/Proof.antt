@@ -1,5 +1,5 @@
 -- `dots::clear` meets its contract. The loop's invariant: the first r rows are zeroed. Assumes nothing.
-use mathlib.Core.Path.{_≡_, refl, _∙_}
+use mathlib.Core.Path.{_≡_, refl}
 use Prim.Native.Nat.{_≤_, _-_}
 use native.Mathlib.Omega.{arith}
 use lib.ListN.{length}
@@ -22,7 +22,12 @@ loop-holds c = (omega arith, refl, rect-none _ _ _ _ _ _ _ (λ a i. omega arith)
 loop-again : tie.Need-loop-again Inv-loop μ-loop
 unfolding cleared
 loop-again c =
-    (omega arith, omega (arith, c .before .before .clear-row .kept .1 .0), c .before .before .clear-row .ensures ∙ rect-turn _ _ _ _ _ _ _ _ _ (c .before .before .before .before .before .loop .inv .2) (λ j b hj. refl))
+    let head = c .before .before .before .before .before .loop in
+    let clearing = c .before .before .clear-row in (
+      omega arith,
+      omega (arith, clearing .kept .1 .0),
+      rect-turn _ _ _ _ _ _ _ _ _ _ (head .inv .2) (clearing .ensures) (λ j b hj. refl),
+    )
 
 returns : tie.Need-returns Inv-loop μ-loop
 unfolding cleared

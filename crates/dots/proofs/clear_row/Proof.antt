@@ -21,8 +21,11 @@ loop-holds c = (omega arith, refl, rect-none _ _ _ _ _ _ _ (λ a i. omega arith)
 
 loop-again : tie.Need-loop-again Inv-loop μ-loop
 unfolding cleared
-loop-again c =
-    (omega arith, simp length-set (omega arith), row-turn _ _ _ _ _ _ _ _ _ (c .at .ensures .0) (c .before .before .loop .inv .2) (omega arith) (omega arith) refl)
+loop-again c = (
+  omega arith,
+  simp length-set (omega arith),
+  row-turn _ _ _ _ _ _ _ _ _ (c .at .ensures .0) (c .before .before .loop .inv .2) (omega arith) (omega arith) refl,
+)
 
 returns : tie.Need-returns Inv-loop μ-loop
 unfolding cleared

@@ -1,4 +1,5 @@
--- `dots::copy_row` meets its contract. The loop's invariant: the first j columns are copied, and j is the count. Assumes nothing.
+-- `dots::copy_row` meets its contract. The loop's invariant: the first j columns are copied, and counted.
+-- Assumes nothing.
 use mathlib.Core.Path.{_≡_, refl, ap, _∙_}
 use Prim.Native.Nat.{ℕ, _≤_, _<_, _+_, _-_}
 use borrow.Author.Needs.{needs}
@@ -35,7 +36,7 @@ visible : (c : tie.In-loop Inv-loop μ-loop) → Visible c
 visible c =
     let start = c .before .before .before .before .before .before in
     let x = start .args .p .first + c .before .loop .j in
-    let seen : x < start .args .g .visible = shown-lt (start .args .g) (start .args .p) (c .before .loop .j) (omega arith) in
+    let seen = shown-lt (start .args .g) (start .args .p) (c .before .loop .j) (omega arith) in
     (seen, address-lt (start .args .g) x (start .args .y) (start .pre .0) (start .args .g .visible) seen)
 
 add-at : tie.Need-add-at Inv-loop μ-loop
@@ -51,12 +52,14 @@ loop-again : tie.Need-loop-again Inv-loop μ-loop
 loop-again c =
     let start = c .before .before .before .before .before .before .before .before .before .before .before in
     let head = c .before .before .before .before .before .before .loop in
-    let seen = visible (c .before .before .before .before .before) in (
+    let seen = visible (c .before .before .before .before .before) in
+    let place = c .before .before .before .before .at in
+    let copying = c .before .before .copy-byte in (
       omega arith,
-      omega (arith, c .before .before .copy-byte .ensures .1),
-      omega (arith, c .before .before .copy-byte .kept .1 .0),
-      c .before .before .copy-byte .ensures .0
-          ∙ row-turn _ _ _ _ _ _ _ _ _ (c .before .before .before .before .at .ensures .0) (head .inv .3) (start .pre .0) (omega arith)
+      omega (arith, copying .ensures .1),
+      omega (arith, copying .kept .1 .0),
+      copying .ensures .0
+          ∙ row-turn _ _ _ _ _ _ _ _ _ (place .ensures .0) (head .inv .3) (start .pre .0) (omega arith)
           (ap (λ (a : ℕ). getD (start .args .mem .now) a 0) (omega arith)),
     )
 

@@ -1,7 +1,8 @@
--- `dots::grow` meets its contract. Assumes nothing.
+-- `dots::grow` meets its contract: an empty span takes the columns, any other is widened. Assumes nothing.
+use mathlib.Core.Path.{ap₂}
 use borrow.Author.Needs.{needs}
 use borrow.Author.Tests.{eq-eqb, ne-eqb}
-use Rattle.paper.specs.Strokes.{grown}
+use Rattle.paper.specs.Strokes.{spanOf, grown}
 use Rattle.dots.proofs.grow.Statement.{statement}
 use Rattle.dots.proofs.grow.Tie as tie
 
@@ -11,7 +12,9 @@ returns c = rw (eq-eqb _ _ (c .if1 .taken))
 
 returns-2 : tie.Need-returns-2
 unfolding grown
-returns-2 c = rw (ne-eqb _ _ (c .before .before .if1 .left)) (cc)
+returns-2 c =
+    rw (ne-eqb _ _ (c .before .before .if1 .left))
+    (ap₂ spanOf (c .before .leftmost .ensures) (c .rightmost .ensures))
 
 pub grow-spec : {M : Type 1} → statement M
 grow-spec = tie.close (tie.spec (λ c κs. search needs) (λ c κs. search needs) returns returns-2)

@@ -1,4 +1,4 @@
--- `dots::grow_row` meets its contract. Assumes nothing.
+-- `dots::grow_row` meets its contract: its test is the definition's. Assumes nothing.
 use borrow.Author.Needs.{needs}
 use Rattle.dots.specs.Spans.{grownRect}
 use Rattle.dots.proofs.grow_row.Statement.{statement}

@@ -1,4 +1,4 @@
--- `dots::mark` meets its contract. Assumes nothing.
+-- `dots::mark` meets its contract, row by row. Assumes nothing.
 use mathlib.Core.Path.{ap₂, _∙_}
 use mathlib.Core.List.{[], _∷_}
 use Rattle.paper.specs.declared.Span.{Span}
@@ -8,7 +8,9 @@ use Rattle.dots.proofs.mark.Statement.{statement}
 use Rattle.dots.proofs.mark.Tie as tie
 
 returns : tie.Need-returns
-returns c = ap₂ (λ (p q : Span). p ∷ q ∷ []) (c .before .before .grow-row .ensures) (c .grow-row2 .ensures) ∙ mark-two _ _ _ _ _ (search needs)
+returns c =
+    ap₂ (λ (p q : Span). p ∷ q ∷ []) (c .before .before .grow-row .ensures) (c .grow-row2 .ensures)
+    ∙ mark-two _ _ _ _ _ (search needs)
 
 pub mark-spec : {M : Type 1} → statement M
 mark-spec =

@@ -1,5 +1,5 @@
 -- `dots::pull` meets its contract. The loop's invariant: the first r rows are taken. Assumes nothing.
-use mathlib.Core.Path.{_≡_, refl, _∙_}
+use mathlib.Core.Path.{_≡_, refl}
 use Prim.Native.Nat.{_≤_, _-_}
 use native.Mathlib.Omega.{arith}
 use lib.ListN.{length}
@@ -23,10 +23,11 @@ loop-holds c = (omega arith, refl, rect-none _ _ _ _ _ _ _ (λ a i. omega arith)
 loop-again : tie.Need-loop-again Inv-loop μ-loop
 loop-again c =
     let start = c .before .before .before .before .before .before .before in
-    let head = c .before .before .before .before .before .loop in (
+    let head = c .before .before .before .before .before .loop in
+    let pulling = c .before .before .pull-row in (
       omega arith,
-      omega (arith, c .before .before .pull-row .kept .1 .0),
-      c .before .before .pull-row .ensures ∙ pull-turn _ _ (start .pre .1) _ _ _ _ _ _ _ _ (start .pre .0) (omega arith) (head .inv .2),
+      omega (arith, pulling .kept .1 .0),
+      pull-turn _ _ (start .pre .1) _ _ _ _ _ _ _ _ _ (start .pre .0) (omega arith) (head .inv .2) (pulling .ensures),
     )
 
 returns : tie.Need-returns Inv-loop μ-loop

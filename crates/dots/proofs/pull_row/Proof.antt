@@ -26,7 +26,8 @@ loop-again c =
     let head = c .before .before .before .before .loop in (
       omega arith,
       simp length-set (omega arith),
-      pull-row-turn _ _ (start .pre .1) _ _ _ _ _ _ _ _ _ _ (start .pre .0) (omega arith) (head .inv .2) (head .inv .1) (c .before .before .at .ensures .0) refl (c .at2 .ensures .0),
+      pull-row-turn _ _ (start .pre .1) _ _ _ _ _ _ _ _ _ _ (start .pre .0) (omega arith) (head .inv .2) (head .inv .1)
+          (c .before .before .at .ensures .0) refl (c .at2 .ensures .0),
     )
 
 returns : tie.Need-returns Inv-loop μ-loop

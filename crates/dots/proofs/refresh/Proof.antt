@@ -1,6 +1,7 @@
--- `dots::refresh` meets its contract. The loop's invariant: the glass and the count are those of the first y spans. Assumes nothing.
-use mathlib.Core.Path.{_≡_, refl, ap, _∙_}
-use Prim.Native.Nat.{ℕ, _≤_, _-_, _+_, _*_}
+-- `dots::refresh` meets its contract. The loop's invariant: the glass and the count are those of the first y spans.
+-- Assumes nothing.
+use mathlib.Core.Path.{_≡_, refl}
+use Prim.Native.Nat.{_≤_, _-_, _*_}
 use borrow.Author.Needs.{needs}
 use native.Mathlib.Omega.{arith}
 use lib.ListN.{length, getD, take}
@@ -43,8 +44,8 @@ loop-again c =
       omega arith,
       omega arith,
       omega (arith, copying .kept .1 .1 .0),
-      copying .ensures .0 ∙ refreshed-turn _ _ spans (head .y) _ _ (omega arith) (head .inv .3),
-      ap (λ (n : ℕ). head .moved + n) (copying .ensures .1) ∙ shown-turn _ spans (head .y) _ (omega arith) (head .inv .4),
+      refreshed-turn _ _ spans (head .y) _ _ _ (omega arith) (head .inv .3) (copying .ensures .0),
+      shown-turn _ spans (head .y) _ _ (omega arith) (head .inv .4) (copying .ensures .1),
       omega (arith, small c),
     )
 

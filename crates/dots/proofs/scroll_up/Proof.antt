@@ -1,16 +1,14 @@
--- `dots::scroll_up` meets its contract. The rows that stay are taken from below, and the rest is zeroed. Assumes nothing.
-use mathlib.Core.Path.{ap, _∙_}
+-- `dots::scroll_up` meets its contract. The rows kept come from below; the rest is zeroed. Assumes nothing.
 use borrow.Author.Needs.{needs}
 use native.Mathlib.Omega.{arith}
-use Rattle.dots.specs.Rectangles.{cleared}
 use Rattle.dots.proofs.Pulls.{scrolled-parts}
 use Rattle.dots.proofs.scroll_up.Statement.{statement}
 use Rattle.dots.proofs.scroll_up.Tie as tie
 
 returns : tie.Need-returns
 returns c =
-    let pulling = c .before .before .before .before .before .before in
-    c .before .before .clear .ensures ∙ ap (cleared _ _ _ _ _) (pulling .pull .ensures) ∙ scrolled-parts _ _ _ _ _ _ _ _ _ (omega arith)
+    let pulling = c .before .before .before .before .before .before .pull in
+    scrolled-parts _ _ _ _ _ _ _ _ _ _ _ (omega arith) (pulling .ensures) (c .before .before .clear .ensures)
 
 pub scroll-up-spec : {M : Type 1} → statement M
 scroll-up-spec =

@@ -1,4 +1,4 @@
--- `dots::shown_of` meets its contract. Assumes nothing.
+-- `dots::shown_of` meets its contract: a difference that stops at 0. Assumes nothing.
 use borrow.Author.Needs.{needs}
 use native.Mathlib.Omega.{arith}
 use Rattle.paper.specs.Strokes.{shown}
