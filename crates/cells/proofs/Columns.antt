@@ -14,8 +14,7 @@ use Rattle.paper.specs.Strokes.{rectMap}
 use Rattle.paper.specs.Cells.{Dots, enlargedDots, penned}
 use Rattle.laws.specs.Bytes.{reversedByte, mixedByte, pennedByte}
 use Rattle.laws.proofs.Penned.{penned-dots, penned-byte}
-use Rattle.dots.specs.Rectangles.{stored}
-use Rattle.dots.proofs.Each.{Bytes}
+use Rattle.dots.specs.Rectangles.{stored, Bytes}
 use Rattle.dots.proofs.Rects.{rect-none, rect-same, rect-beside, rect-below, stored-by}
 use Rattle.cells.specs.declared.Tall.{Tall}
 use Rattle.cells.specs.Drawn.{cellMap, imaged}
