@@ -1,5 +1,5 @@
 -- `windows::fits_memory` meets its contract. Assumes nothing.
-use borrow.Author.Needs.{needs}
+use native.Mathlib.Omega.{arith}
 use mathlib.Core.Path.{refl}
 use Rattle.paper.specs.Settings.{fits}
 use Rattle.windows.proofs.fits_memory.Statement.{statement}
@@ -10,4 +10,4 @@ unfolding fits
 returns c = refl
 
 pub fits-memory-spec : {M : Type 1} → statement M
-fits-memory-spec = tie.close (tie.spec (λ c. search needs) (λ c. search needs) returns)
+fits-memory-spec = tie.close (tie.spec (λ c. omega arith) (λ c. omega arith) returns)

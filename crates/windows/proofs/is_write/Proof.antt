@@ -15,4 +15,4 @@ unfolding isWrite
 returns-2 c = elsewhere isWrite 0 (1 ∷ 2 ∷ 3 ∷ 4 ∷ 5 ∷ 6 ∷ 7 ∷ []) (c .before .args .key) (search needs) (c .match .keys2)
 
 pub is-write-spec : {M : Type 1} → statement M
-is-write-spec = tie.close (tie.spec (λ c. search needs) returns returns-2)
+is-write-spec = tie.close (tie.spec (λ c. c .match .keys1) returns returns-2)

@@ -15,4 +15,4 @@ unfolding notCarriedValue
 returns-2 c = elsewhere (λ k. notCarriedValue k (c .before .args .n)) 0 (1 ∷ 2 ∷ 3 ∷ 4 ∷ 5 ∷ 6 ∷ 8 ∷ []) (c .before .args .key) (search needs) (c .match .keys2)
 
 pub not-carried-value-spec : {M : Type 1} → statement M
-not-carried-value-spec = tie.close (tie.spec (λ c. search needs) returns returns-2)
+not-carried-value-spec = tie.close (tie.spec (λ c. c .match .keys1) returns returns-2)
