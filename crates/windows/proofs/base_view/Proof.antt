@@ -1,4 +1,4 @@
--- `windows::base_view` meets its contract. Assumes nothing.
+-- `windows::base_view` meets its contract: all of memory, its visible part, or its hidden part. Assumes nothing.
 use native.Mathlib.Omega.{arith}
 use borrow.Author.Tests.{eq-eqb, ne-eqb, lt-ltb, le-ltb}
 use Rattle.paper.specs.Settings.{baseView}
