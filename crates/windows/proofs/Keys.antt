@@ -34,16 +34,17 @@ by-tag Mixing = refl
 by-tag Width = refl
 by-tag Write = refl
 
--- a test is false at the key with each of some tags
-abbrev pub False : (Key → Bool) → List ℕ → Type 0
-False f [] = Unit
-False f (n ∷ ns) = (false ≡ f (keyAt n)) × False f ns
+-- a test fails at the key with each of some tags
+abbrev pub Fails : (Key → Bool) → List ℕ → Type 0
+Fails f [] = Unit
+Fails f (n ∷ ns) = (false ≡ f (keyAt n)) × Fails f ns
 
-one-of : (f : Key → Bool) (n : ℕ) (ns : List ℕ) (x : ℕ) → False f (n ∷ ns) → OneOf (n ∷ ns) x → false ≡ f (keyAt x)
+one-of : (f : Key → Bool) (n : ℕ) (ns : List ℕ) (x : ℕ) → Fails f (n ∷ ns) → OneOf (n ∷ ns) x → false ≡ f (keyAt x)
 one-of f n [] x p e = p .0 ∙ sym (ap (λ (t : ℕ). f (keyAt t)) e)
 one-of f n (m ∷ ns) x p (inl e) = p .0 ∙ sym (ap (λ (t : ℕ). f (keyAt t)) e)
 one-of f n (m ∷ ns) x p (inr h) = one-of f m ns x (p .1) h
 
--- so it is false at a key that has one of them
-pub elsewhere : (f : Key → Bool) (n : ℕ) (ns : List ℕ) (k : Key) → False f (n ∷ ns) → OneOf (n ∷ ns) (tagOf the-type k) → false ≡ f k
-elsewhere f n ns k p h = one-of f n ns (tagOf the-type k) p h ∙ ap f (by-tag k)
+-- so it fails at a key that has one of them
+pub elsewhere : (f : Key → Bool) (ns : List ℕ) (k : Key) → Fails f ns → OneOf ns (tagOf the-type k) → false ≡ f k
+elsewhere f [] k p h = absurd h
+elsewhere f (n ∷ ns) k p h = one-of f n ns (tagOf the-type k) p h ∙ ap f (by-tag k)

@@ -1,1 +1,1 @@
-pub mod Keys
+mod Keys

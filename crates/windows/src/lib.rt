@@ -376,22 +376,28 @@ pub fn with_view(s: State, v: View) -> State
     requires { ⌜ (s .selected ≤ 4) × (v .left + v .x < 65536) × (v .top + v .y < 65536) ⌝ }
     ensures { λ r. ⌜ r ≡ withView s v ⌝ }
 {
-    if s.selected == 0 {
+    let k = s.selected;
+    let left = v.left;
+    let top = v.top;
+    let x = v.x;
+    let y = v.y;
+    let mode = v.mode;
+    if k == 0 {
         return at_cursor(
             s,
             Cursor {
-                x: (v.left + v.x) as u16,
-                y: (v.top + v.y) as u16,
-                mode: v.mode,
+                x: (left + x) as u16,
+                y: (top + y) as u16,
+                mode,
             },
         );
     }
     at_cursor(
         s,
         Cursor {
-            x: v.x as u16,
-            y: v.y as u16,
-            mode: v.mode,
+            x: x as u16,
+            y: y as u16,
+            mode,
         },
     )
 }

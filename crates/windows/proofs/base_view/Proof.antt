@@ -1,5 +1,5 @@
--- `windows::base_view` meets its contract. Assumes nothing.
-use borrow.Author.Needs.{needs}
+-- `windows::base_view` meets its contract: all of memory, its visible part, or its hidden part. Assumes nothing.
+use native.Mathlib.Omega.{arith}
 use borrow.Author.Tests.{eq-eqb, ne-eqb, lt-ltb, le-ltb}
 use Rattle.paper.specs.Settings.{baseView}
 use Rattle.windows.proofs.base_view.Statement.{statement}
@@ -18,4 +18,4 @@ unfolding baseView
 returns-3 c = rw (ne-eqb _ _ (c .before .before .if1 .left), le-ltb _ _ (c .before .if2 .left))
 
 pub base-view-spec : {M : Type 1} → statement M
-base-view-spec = tie.close (tie.spec (λ c. search needs) (λ c. search needs) returns returns-2 (λ c. search needs) returns-3)
+base-view-spec = tie.close (tie.spec (λ c. omega arith) (λ c. omega arith) returns returns-2 (λ c. omega arith) returns-3)

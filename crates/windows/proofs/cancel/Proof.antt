@@ -1,4 +1,4 @@
--- `windows::cancel` meets its contract. Assumes nothing.
+-- `windows::cancel` meets its contract: the current window gives way to the base, any other does not. Assumes nothing.
 use borrow.Author.Needs.{needs}
 use borrow.Author.Tests.{eq-eqb, ne-eqb}
 use Rattle.paper.specs.Settings.{cancelled}
@@ -7,11 +7,21 @@ use Rattle.windows.proofs.cancel.Tie as tie
 
 returns : tie.Need-returns
 unfolding cancelled
-returns c = rw (eq-eqb _ _ (c .if1 .taken), c .before .before .with-window .ensures, c .before .before .before .no-window .ensures)
+returns c =
+    rw (
+      eq-eqb _ _ (c .if1 .taken),
+      c .before .before .with-window .ensures,
+      c .before .before .before .no-window .ensures,
+    )
 
 returns-2 : tie.Need-returns-2
 unfolding cancelled
-returns-2 c = rw (ne-eqb _ _ (c .if1 .left), c .before .before .with-window .ensures, c .before .before .before .no-window .ensures)
+returns-2 c =
+    rw (
+      ne-eqb _ _ (c .if1 .left),
+      c .before .before .with-window .ensures,
+      c .before .before .before .no-window .ensures,
+    )
 
 pub cancel-spec : {M : Type 1} → statement M
 cancel-spec = tie.close (tie.spec (λ c κs. search needs) (λ c κs. search needs) returns returns-2)

@@ -1,4 +1,4 @@
--- `windows::cursor_of` meets its contract. Assumes nothing.
+-- `windows::cursor_of` meets its contract: the base where 0 is selected, else user window k. Assumes nothing.
 use borrow.Author.Needs.{needs}
 use borrow.Author.Tests.{eq-eqb, ne-eqb}
 use Rattle.paper.specs.Settings.{cursorOf}

@@ -1,6 +1,5 @@
--- `windows::define` meets its contract. Assumes nothing.
+-- `windows::define` meets its contract: the new window's cursor is at its top left. Assumes nothing.
 use borrow.Author.Needs.{needs}
-use Rattle.paper.specs.Settings.{defined}
 use Rattle.windows.proofs.define.Statement.{statement}
 use Rattle.windows.proofs.define.Tie as tie
 

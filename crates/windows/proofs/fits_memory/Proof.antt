@@ -1,13 +1,10 @@
--- `windows::fits_memory` meets its contract. Assumes nothing.
-use borrow.Author.Needs.{needs}
+-- `windows::fits_memory` meets its contract: the sums of two 16-bit numbers do not wrap. Assumes nothing.
 use mathlib.Core.Path.{refl}
+use native.Mathlib.Omega.{arith}
 use Rattle.paper.specs.Settings.{fits}
 use Rattle.windows.proofs.fits_memory.Statement.{statement}
 use Rattle.windows.proofs.fits_memory.Tie as tie
 
-returns : tie.Need-returns
-unfolding fits
-returns c = refl
-
 pub fits-memory-spec : {M : Type 1} → statement M
-fits-memory-spec = tie.close (tie.spec (λ c. search needs) (λ c. search needs) returns)
+unfolding fits
+fits-memory-spec = tie.close (tie.spec (λ c. omega arith) (λ c. omega arith) (λ c. refl))

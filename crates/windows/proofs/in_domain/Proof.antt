@@ -1,5 +1,4 @@
 -- `windows::in_domain` meets its contract: each arm is the paper's clause for its key. Assumes nothing.
-use borrow.Author.Needs.{needs}
 use Rattle.paper.specs.Settings.{inDomain}
 use Rattle.windows.proofs.in_domain.Statement.{statement}
 use Rattle.windows.proofs.in_domain.Tie as tie
@@ -9,15 +8,15 @@ unfolding inDomain
 in-domain-spec =
     tie.close
     (tie.spec
-    (λ c. search needs)
-    (λ c. search needs)
-    (λ c. search needs)
-    (λ c. search needs)
-    (λ c. search needs)
-    (λ c. search needs)
-    (λ c. search needs)
-    (λ c. search needs)
-    (λ c. search needs)
+    (λ c. c .match .keys1)
+    (λ c. c .match .keys2)
+    (λ c. c .match .keys3)
+    (λ c. c .match .keys4)
+    (λ c. c .match .keys5)
+    (λ c. c .match .keys6)
+    (λ c. c .match .keys7)
+    (λ c. c .match .keys8)
+    (λ c. c .match .keys9)
     (λ c. rw (c .enum-told .given .1))
     (λ c. rw (c .enum-told2 .given .1))
     (λ c. rw (c .enum-told3 .given .1))

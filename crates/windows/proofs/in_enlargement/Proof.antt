@@ -4,9 +4,6 @@ use Rattle.paper.specs.Settings.{inEnlargement}
 use Rattle.windows.proofs.in_enlargement.Statement.{statement}
 use Rattle.windows.proofs.in_enlargement.Tie as tie
 
-returns : tie.Need-returns
-unfolding inEnlargement
-returns c = refl
-
 pub in-enlargement-spec : {M : Type 1} → statement M
-in-enlargement-spec = tie.close (tie.spec returns)
+unfolding inEnlargement
+in-enlargement-spec = tie.close (tie.spec (λ c. refl))

@@ -1,4 +1,4 @@
--- `windows::in_mode` meets its contract. Assumes nothing.
+-- `windows::in_mode` meets its contract: the cursor that is put back is the one read, in the new mode. Assumes nothing.
 use borrow.Author.Needs.{needs}
 use Rattle.paper.specs.Settings.{inMode}
 use Rattle.windows.proofs.in_mode.Statement.{statement}

@@ -4,9 +4,6 @@ use Rattle.paper.specs.Settings.{initialStyle, initialSettings}
 use Rattle.windows.proofs.initial_settings.Statement.{statement}
 use Rattle.windows.proofs.initial_settings.Tie as tie
 
-returns : tie.Need-returns
-unfolding initialStyle initialSettings
-returns c = refl
-
 pub initial-settings-spec : {M : Type 1} → statement M
-initial-settings-spec = tie.close (tie.spec returns)
+unfolding initialStyle initialSettings
+initial-settings-spec = tie.close (tie.spec (λ c. refl))

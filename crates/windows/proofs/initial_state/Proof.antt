@@ -1,4 +1,4 @@
--- `windows::initial_state` meets its contract: its parts are those of the paper, and two rows have two spans. Assumes nothing.
+-- `windows::initial_state` meets its contract: its parts are the paper's, and two rows have two spans. Assumes nothing.
 use borrow.Author.Needs.{needs}
 use Rattle.paper.specs.Settings.{initialState}
 use Rattle.windows.proofs.initial_state.Statement.{statement}
@@ -6,7 +6,13 @@ use Rattle.windows.proofs.initial_state.Tie as tie
 
 returns : tie.Need-returns
 unfolding initialState
-returns c = rw (c .before .before .before .pre, c .before .before .no-window .ensures, c .before .initial-settings .ensures, c .top-left .ensures)
+returns c =
+    rw (
+      c .before .before .before .pre,
+      c .before .before .no-window .ensures,
+      c .before .initial-settings .ensures,
+      c .top-left .ensures,
+    )
 
 pub initial-state-spec : {M : Type 1} → statement M
 initial-state-spec = tie.close (tie.spec (λ c κs. search needs) (λ c κs. search needs) (λ c κs. search needs) returns)

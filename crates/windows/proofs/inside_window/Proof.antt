@@ -1,4 +1,4 @@
--- `windows::inside_window` meets its contract. Assumes nothing.
+-- `windows::inside_window` meets its contract: the base where 0 is selected, else user window k. Assumes nothing.
 use borrow.Author.Needs.{needs}
 use borrow.Author.Tests.{eq-eqb, ne-eqb}
 use Rattle.paper.specs.Settings.{insideWindow}
@@ -11,7 +11,11 @@ returns c = rw (eq-eqb _ _ (c .before .before .if1 .taken))
 
 returns-2 : tie.Need-returns-2
 unfolding insideWindow
-returns-2 c = rw (c .before .before .window-at .ensures, ne-eqb _ _ (c .before .before .before .before .if1 .left))
+returns-2 c =
+    rw (
+      c .before .before .window-at .ensures,
+      ne-eqb _ _ (c .before .before .before .before .if1 .left),
+    )
 
 pub inside-window-spec : {M : Type 1} → statement M
 inside-window-spec = tie.close (tie.spec returns (λ c κs. search needs) returns-2)

@@ -1,4 +1,4 @@
--- `windows::is_selectable` meets its contract: 0, above 4, and 1 to 4. Assumes nothing.
+-- `windows::is_selectable` meets its contract: k is 0, above 4, or a user window's number. Assumes nothing.
 use borrow.Author.Needs.{needs}
 use borrow.Author.Tests.{eq-eqb, ne-eqb, le-leb, lt-leb}
 use Rattle.paper.specs.Settings.{selectable}
@@ -15,7 +15,12 @@ returns-2 c = rw (ne-eqb _ _ (c .before .if1 .left), lt-leb _ _ (c .if2 .taken))
 
 returns-3 : tie.Need-returns-3
 unfolding selectable
-returns-3 c = rw (c .before .window-at .ensures, ne-eqb _ _ (c .before .before .before .if1 .left), le-leb _ _ (c .before .before .if2 .left))
+returns-3 c =
+    rw (
+      c .before .window-at .ensures,
+      ne-eqb _ _ (c .before .before .before .if1 .left),
+      le-leb _ _ (c .before .before .if2 .left),
+    )
 
 pub is-selectable-spec : {M : Type 1} → statement M
 is-selectable-spec = tie.close (tie.spec returns returns-2 (λ c κs. search needs) returns-3)

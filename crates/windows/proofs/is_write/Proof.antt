@@ -1,4 +1,4 @@
--- `windows::is_write` meets its contract. Assumes nothing.
+-- `windows::is_write` meets its contract: no key but Write passes. Assumes nothing.
 use mathlib.Core.List.{[], _∷_}
 use borrow.Author.Needs.{needs}
 use Rattle.paper.specs.Carry.{isWrite}
@@ -6,13 +6,12 @@ use Rattle.windows.proofs.Keys.{elsewhere}
 use Rattle.windows.proofs.is_write.Statement.{statement}
 use Rattle.windows.proofs.is_write.Tie as tie
 
-returns : tie.Need-returns
-unfolding isWrite
-returns c = rw (c .enum-told .given .1)
-
 returns-2 : tie.Need-returns-2
 unfolding isWrite
-returns-2 c = elsewhere isWrite 0 (1 ∷ 2 ∷ 3 ∷ 4 ∷ 5 ∷ 6 ∷ 7 ∷ []) (c .before .args .key) (search needs) (c .match .keys2)
+returns-2 c =
+    elsewhere isWrite (0 ∷ 1 ∷ 2 ∷ 3 ∷ 4 ∷ 5 ∷ 6 ∷ 7 ∷ []) (c .before .args .key) (search needs)
+    (c .match .keys2)
 
 pub is-write-spec : {M : Type 1} → statement M
-is-write-spec = tie.close (tie.spec (λ c. search needs) returns returns-2)
+unfolding isWrite
+is-write-spec = tie.close (tie.spec (λ c. c .match .keys1) (λ c. rw (c .enum-told .given .1)) returns-2)
