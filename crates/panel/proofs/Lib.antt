@@ -1,0 +1,3 @@
+pub mod Pieces
+pub mod Starts
+pub mod Holds

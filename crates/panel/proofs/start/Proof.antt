@@ -1,0 +1,51 @@
+-- `panel::start` meets its contract. Assumes nothing.
+use borrow.Author.Needs.{needs}
+use mathlib.Core.Path.{refl, ap, _∙_}
+use native.Mathlib.Omega.{arith}
+use Rattle.paper.specs.declared.Geometry.{Geometry}
+use Rattle.paper.specs.Panel.{panel}
+use Rattle.paper.specs.Settings.{initialState}
+use Rattle.panel.proofs.Starts.{start-refused, start-accepted}
+use Rattle.panel.proofs.start.Statement.{statement}
+use Rattle.panel.proofs.start.Tie as tie
+
+module-size-requires : tie.Need-module-size-requires
+module-size-requires c κs = search needs
+
+initial-state-requires : tie.Need-initial-state-requires
+unfolding panel
+initial-state-requires c κs = rw (c .module-size .ensures) refl
+
+returns : tie.Need-returns
+returns c = start-refused _ _ (c .if1 .taken)
+    (c .before .initial-state .ensures ∙ ap (λ (g : Geometry). initialState g) (c .before .before .module-size .ensures))
+
+clear-requires : tie.Need-clear-requires
+unfolding panel
+clear-requires c κs = rw (c .before .before .before .module-size .ensures)
+    (record { across = omega arith; down = omega arith }, record { size = c .before .if1 .left; small = omega arith })
+
+mark-requires : tie.Need-mark-requires
+unfolding panel
+mark-requires c κs = rw (c .before .before .before .before .before .before .before .module-size .ensures) (omega arith, omega arith)
+
+same-length : tie.Need-same-length
+same-length c = search needs
+
+returns-2 : tie.Need-returns-2
+unfolding panel
+returns-2 c = let g = c .before .before .before .before .before .before .before .before .before .before .before .module-size .ensures in
+    start-accepted _ _ _ _ (c .before .before .before .before .before .before .before .before .before .if1 .left) (c .before .before .before .before .before .before .before .before .before .before .initial-state .ensures ∙ ap (λ (g : Geometry). initialState g) g)
+    (rw g at (c .before .before .before .mark .ensures)) (rw g at (c .before .before .before .before .before .before .before .clear .ensures))
+
+pub start-spec : {M : Type 1} → statement M
+start-spec =
+    tie.close
+    (tie.spec
+    module-size-requires
+    initial-state-requires
+    returns
+    clear-requires
+    mark-requires
+    same-length
+    returns-2)

@@ -1,0 +1,19 @@
+-- What a call gave, as the paper's definition of the call gives it: the answer beside what the call was lent. Assumes nothing.
+use mathlib.Core.List.{List}
+use Prim.Native.Nat.{ℕ}
+use Rattle.paper.specs.declared.Answer.{Answer}
+use Rattle.paper.specs.declared.Fed.{Fed}
+use Rattle.paper.specs.declared.Refreshed.{Refreshed}
+use Rattle.paper.specs.Calls.{Starting, Feeding, Refreshing}
+
+-- start: the answer and the memory
+abbrev pub started : Answer → List ℕ → Starting
+started a m = record { answer = a; mem = m }
+
+-- feed: the answer and the memory
+abbrev pub fed : Fed → List ℕ → Feeding
+fed a m = record { answer = a; mem = m }
+
+-- refresh: the answer and the glass
+abbrev pub refreshed : Refreshed → List ℕ → Refreshing
+refreshed a glass = record { answer = a; glass = glass }

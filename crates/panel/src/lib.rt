@@ -1,0 +1,284 @@
+// The panel: document 01's five calls, and the loop over a piece. No call has a `requires`.
+// It may use accept for the state's test, carry for one byte, dots for the glass, windows for the initial state.
+// Each call's contract is one line: what it answers and leaves is the paper's definition of that call.
+use paper::Answer;
+use paper::Fed;
+use paper::Geometry;
+use paper::Half;
+use paper::Hold;
+use paper::Outcome;
+use paper::Refreshed;
+use paper::Refusal;
+use paper::Span;
+use paper::State;
+ghost use mathlib.Core.Path.{_≡_};
+ghost use mathlib.Core.List.{[]};
+ghost use Prim.Native.Nat.{_+_, _<_, _≤_};
+ghost use lib.ListN.{length};
+ghost use Rattle.paper.specs.Panel.{panel, fontLength};
+ghost use Rattle.paper.specs.Numbers.{carriedBy, answeredBy};
+ghost use Rattle.paper.specs.Settings.{windowAt, isDefined};
+ghost use Rattle.paper.specs.Calls.{answer, startCall, next, run, fedNothing, feedCall, heldBy, holdCall, putBack, releaseCall, refreshing, refreshCall};
+ghost use Rattle.carry.specs.Does.{Ready};
+ghost use Rattle.panel.specs.Told.{started, fed, refreshed};
+
+// The 112 by 16 module.
+fn module_size() -> Geometry
+    ensures { λ g. ⌜ g ≡ panel ⌝ }
+{
+    Geometry {
+        columns: 512,
+        rows: 2,
+        visible: 112,
+    }
+}
+
+// ---- start
+
+// The initial state, the memory zeroed and all of it marked as written. 1: the memory is not 1,024 bytes.
+pub fn start(mem: &mut [u8]) -> Answer
+    ensures { λ r. ⌜ started r (now (mem .exit)) ≡ startCall panel (now (mem .entry)) ⌝ }
+{
+    let g = module_size();
+    let t = windows::initial_state(g);
+    if mem.len() != 1024 {
+        return Answer {
+            refusal: Refusal::MemoryLength,
+            state: t,
+        };
+    }
+    dots::clear(g, mem, 0, 0, g.columns, g.rows);
+    let none = t.spans;
+    let spans = dots::mark(none, 0, 0, g.columns, g.rows);
+    let state = State { spans, ..t };
+    Answer {
+        refusal: Refusal::Accepted,
+        state,
+    }
+}
+
+// ---- feed
+
+// What an outcome adds to the commands carried out.
+fn carried_by(o: Outcome) -> usize
+    ensures { λ n. ⌜ n ≡ carriedBy o ⌝ }
+{
+    match o {
+        Outcome::Unfinished => 0,
+        Outcome::Carried => 1,
+        Outcome::OutOfDomain => 0,
+        Outcome::Cancelled => 0,
+        Outcome::Unknown => 0,
+        Outcome::NotCarried => 0,
+        Outcome::WindowHeld => 0,
+        Outcome::TooLarge => 0,
+        Outcome::NotDefined => 0,
+    }
+}
+
+// What an outcome adds to the commands answered 11 to 17.
+fn answered_by(o: Outcome) -> usize
+    ensures { λ n. ⌜ n ≡ answeredBy o ⌝ }
+{
+    match o {
+        Outcome::Unfinished => 0,
+        Outcome::Carried => 0,
+        Outcome::OutOfDomain => 1,
+        Outcome::Cancelled => 1,
+        Outcome::Unknown => 1,
+        Outcome::NotCarried => 1,
+        Outcome::WindowHeld => 1,
+        Outcome::TooLarge => 1,
+        Outcome::NotDefined => 1,
+    }
+}
+
+// An answer that has fed nothing: a refusal, or the beginning of a piece.
+fn fed_nothing(refusal: Refusal, state: State) -> Fed
+    ensures { λ r. ⌜ r ≡ fedNothing refusal state [] .answer ⌝ }
+{
+    Fed {
+        refusal,
+        state,
+        carried: 0,
+        answered: 0,
+        outcome: Outcome::Unfinished,
+    }
+}
+
+// One byte more: carried out, and counted.
+fn feed_byte(g: Geometry, mem: &mut [u8], font: &[u8], f: Fed, b: u8) -> Fed
+    requires { ⌜ Ready g (f .state) (now mem) × (length (now font) ≡ fontLength) ⌝ }
+    requires { ⌜ (f .carried + 1 < 18446744073709551616) × (f .answered + 1 < 18446744073709551616) ⌝ }
+    ensures { λ r. ⌜ fed r (now (mem .exit)) ≡ next g (now (font .entry)) (fed f (now (mem .entry))) b ⌝ }
+{
+    let before = f.state;
+    let d = carry::step(g, mem, font, before, b);
+    let state = d.state;
+    let outcome = d.outcome;
+    let refusal = f.refusal;
+    Fed {
+        refusal,
+        state,
+        carried: f.carried + carried_by(outcome),
+        answered: f.answered + answered_by(outcome),
+        outcome,
+    }
+}
+
+// The whole piece.
+fn feed_all(g: Geometry, mem: &mut [u8], font: &[u8], piece: &[u8], s: State) -> Fed
+    requires { ⌜ Ready g s (now mem) × (length (now font) ≡ fontLength) ⌝ }
+    ensures { λ r. ⌜ fed r (now (mem .exit)) ≡ run g (now (font .entry)) (fedNothing Refusal.Accepted s (now (mem .entry))) (now (piece .entry)) ⌝ }
+{
+    let mut f = fed_nothing(Refusal::Accepted, s);
+    for i in 0..piece.len() {
+        f = feed_byte(g, mem, font, f, piece[i]);
+    }
+    f
+}
+
+// A piece of the stream. 1: the memory is not 1,024 bytes; 2: the font is not 1,120; 8: the state breaks a bound.
+pub fn feed(mem: &mut [u8], font: &[u8], piece: &[u8], s: State) -> Fed
+    ensures { λ r. ⌜ fed r (now (mem .exit)) ≡ feedCall panel (now (font .entry)) s (now (mem .entry)) (now (piece .entry)) ⌝ }
+{
+    let g = module_size();
+    if mem.len() != 1024 {
+        return fed_nothing(Refusal::MemoryLength, s);
+    }
+    if font.len() != 1120 {
+        return fed_nothing(Refusal::FontLength, s);
+    }
+    if accept::is_accepted(g, s) {
+        return feed_all(g, mem, font, piece, s);
+    }
+    fed_nothing(Refusal::BrokenState, s)
+}
+
+// ---- hold and release
+
+// A call answered so.
+fn answers(refusal: Refusal, state: State) -> Answer
+    ensures { λ r. ⌜ r ≡ answer refusal state ⌝ }
+{
+    Answer { refusal, state }
+}
+
+// Whether user window k is defined.
+fn is_defined(s: State, k: usize) -> bool
+    requires { ⌜ (1 ≤ k) × (k ≤ 4) ⌝ }
+    ensures { λ r. ⌜ r ≡ isDefined (windowAt (s .windows) k) ⌝ }
+{
+    let i = k - 1;
+    let w = s.windows[i];
+    0 < w.width
+}
+
+// The state with user window k held: what is half read is dropped, settings and selection are saved.
+fn held_by(s: State, k: u8) -> State
+    ensures { λ r. ⌜ r ≡ heldBy s k ⌝ }
+{
+    let settings = s.settings;
+    let hold = Hold::Held {
+        window: k,
+        selected: s.selected,
+        settings,
+    };
+    State {
+        selected: k,
+        hold,
+        half: Half::Nothing,
+        ..s
+    }
+}
+
+// Holds user window k. 8: the state breaks a bound; 6: a window is held; 4: k is not 1 to 4; 5: window k is not defined.
+pub fn hold(s: State, k: usize) -> Answer
+    ensures { λ r. ⌜ r ≡ holdCall panel s k ⌝ }
+{
+    if !accept::is_accepted(module_size(), s) {
+        return answers(Refusal::BrokenState, s);
+    }
+    let h = s.hold;
+    if windows::is_held(h) {
+        return answers(Refusal::HeldAlready, s);
+    }
+    if !((1 <= k) & (k <= 4)) {
+        return answers(Refusal::NoSuchWindow, s);
+    }
+    if is_defined(s, k) {
+        return answers(Refusal::Accepted, held_by(s, k as u8));
+    }
+    answers(Refusal::UndefinedWindow, s)
+}
+
+// The state with nothing held: what is half read is dropped, the saved settings and selection are put back.
+fn put_back(s: State, h: Hold) -> State
+    ensures { λ r. ⌜ r ≡ putBack s h ⌝ }
+{
+    match h {
+        Hold::Free => s,
+        Hold::Held {
+            window: _,
+            selected,
+            settings,
+        } => State {
+            settings,
+            selected,
+            hold: Hold::Free,
+            half: Half::Nothing,
+            ..s
+        },
+    }
+}
+
+// Releases the held window. 8: the state breaks a bound; 7: no window is held.
+pub fn release(s: State) -> Answer
+    ensures { λ r. ⌜ r ≡ releaseCall panel s ⌝ }
+{
+    if !accept::is_accepted(module_size(), s) {
+        return answers(Refusal::BrokenState, s);
+    }
+    let h = s.hold;
+    if windows::is_held(h) {
+        return answers(Refusal::Accepted, put_back(s, h));
+    }
+    answers(Refusal::NotHeld, s)
+}
+
+// ---- refresh
+
+// A refresh answered so.
+fn moves(refusal: Refusal, state: State, moved: usize) -> Refreshed
+    ensures { λ r. ⌜ r ≡ refreshing refusal state moved [] .answer ⌝ }
+{
+    Refreshed {
+        refusal,
+        state,
+        moved,
+    }
+}
+
+// Brings the glass in step. 1: the memory is not 1,024 bytes; 3: the glass is not 224; 8: the state breaks a bound.
+pub fn refresh(mem: &[u8], glass: &mut [u8], s: State) -> Refreshed
+    ensures { λ r. ⌜ refreshed r (now (glass .exit)) ≡ refreshCall panel s (now (mem .entry)) (now (glass .entry)) ⌝ }
+{
+    let g = module_size();
+    if mem.len() != 1024 {
+        return moves(Refusal::MemoryLength, s, 0);
+    }
+    if glass.len() != 224 {
+        return moves(Refusal::GlassLength, s, 0);
+    }
+    if accept::is_accepted(g, s) {
+        let spans = s.spans;
+        let moved = dots::refresh(g, mem, glass, spans);
+        let nothing = Span { first: 0, end: 0 };
+        let state = State {
+            spans: [nothing, nothing],
+            ..s
+        };
+        return moves(Refusal::Accepted, state, moved);
+    }
+    moves(Refusal::BrokenState, s, 0)
+}
