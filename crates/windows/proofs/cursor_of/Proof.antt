@@ -11,7 +11,7 @@ returns c = rw (eq-eqb _ _ (c .before .if1 .taken))
 
 returns-2 : tie.Need-returns-2
 unfolding cursorOf
-returns-2 c = rw (c .before .window-at .ensures, ne-eqb _ _ (c .before .before .before .if1 .left))
+returns-2 c = rw (c .before .current-window .ensures, ne-eqb _ _ (c .before .before .if1 .left))
 
 pub cursor-of-spec : {M : Type 1} → statement M
 cursor-of-spec = tie.close (tie.spec returns (λ c κs. search needs) returns-2)

@@ -13,8 +13,8 @@ returns-2 : tie.Need-returns-2
 unfolding insideWindow
 returns-2 c =
     rw (
-      c .before .before .window-at .ensures,
-      ne-eqb _ _ (c .before .before .before .before .if1 .left),
+      c .before .before .current-window .ensures,
+      ne-eqb _ _ (c .before .before .before .if1 .left),
     )
 
 pub inside-window-spec : {M : Type 1} → statement M

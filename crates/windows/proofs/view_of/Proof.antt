@@ -12,8 +12,8 @@ returns c = rw (eq-eqb _ _ (c .before .before .before .if1 .taken)) (c .base-vie
 returns-2 : tie.Need-returns-2
 unfolding viewOf
 returns-2 c =
-    rw (ne-eqb _ _ (c .before .before .before .if1 .left))
-    (rw (c .before .window-at .ensures) at (c .window-view .ensures))
+    rw (ne-eqb _ _ (c .before .before .if1 .left))
+    (rw (c .before .current-window .ensures) at (c .window-view .ensures))
 
 pub view-of-spec : {M : Type 1} → statement M
 view-of-spec = tie.close (tie.spec (λ c κs. search needs) returns (λ c κs. search needs) (λ c κs. search needs) returns-2)
