@@ -278,8 +278,9 @@ pub fn at_cursor(s: State, c: Cursor) -> State
         t.base = c;
         return t;
     }
-    let w = current_window(s);
-    with_window(s, k, Window { cursor: c, ..w })
+    let mut w = current_window(s);
+    w.cursor = c;
+    with_window(s, k, w)
 }
 
 // The current window in another mode.
@@ -287,8 +288,9 @@ pub fn in_mode(s: State, mode: u8) -> State
     requires { ⌜ s .selected ≤ 4 ⌝ }
     ensures { λ r. ⌜ r ≡ inMode s mode ⌝ }
 {
-    let c = cursor_of(s);
-    at_cursor(s, Cursor { mode, ..c })
+    let mut c = cursor_of(s);
+    c.mode = mode;
+    at_cursor(s, c)
 }
 
 // Whether a place counted from the current window's top left lies in it.
@@ -313,7 +315,7 @@ fn base_view(g: Geometry, write: u8, c: Cursor) -> View
 {
     let x = c.x as usize;
     let visible = g.visible;
-    let whole = View {
+    let mut view = View {
         left: 0,
         top: 0,
         width: g.columns,
@@ -323,20 +325,16 @@ fn base_view(g: Geometry, write: u8, c: Cursor) -> View
         mode: c.mode,
     };
     if write == 1 {
-        return whole;
+        return view;
     }
     if x < visible {
-        return View {
-            width: visible,
-            ..whole
-        };
+        view.width = visible;
+        return view;
     }
-    View {
-        left: visible,
-        width: g.columns - visible,
-        x: x - visible,
-        ..whole
-    }
+    view.left = visible;
+    view.width = g.columns - visible;
+    view.x = x - visible;
+    view
 }
 
 // A user window's range.
