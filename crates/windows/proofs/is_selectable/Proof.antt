@@ -22,4 +22,13 @@ returns-3 c =
     )
 
 pub is-selectable-spec : {M : Type 1} → statement M
-is-selectable-spec = tie.close (tie.spec returns returns-2 (λ c. search needs) (λ c. search needs) (λ c. search needs) (λ c. search needs) returns-3)
+is-selectable-spec =
+    tie.close
+    (tie.spec
+    returns
+    returns-2
+    (λ c. search needs)
+    (λ c. search needs)
+    (λ c. search needs)
+    (λ c. search needs)
+    returns-3)
