@@ -179,15 +179,6 @@ pub fn is_held(h: Hold) -> bool
     }
 }
 
-// User window k (1 to 4).
-fn window_at(windows: [Window; 4], k: u8) -> Window
-    requires { ⌜ (1 ≤ k) × (k ≤ 4) ⌝ }
-    ensures { λ r. ⌜ r ≡ windowAt windows k ⌝ }
-{
-    let i = (k - 1) as usize;
-    windows[i]
-}
-
 // Whether k names the base window or a defined user window.
 pub fn is_selectable(windows: [Window; 4], k: u8) -> bool
     ensures { λ r. ⌜ r ≡ selectable windows k ⌝ }
@@ -198,7 +189,8 @@ pub fn is_selectable(windows: [Window; 4], k: u8) -> bool
     if 4 < k {
         return false;
     }
-    let w = window_at(windows, k);
+    let i = (k - 1) as usize;
+    let w = windows[i];
     0 < w.width
 }
 
@@ -252,6 +244,16 @@ pub fn cancel(s: State, k: u8) -> State
 
 // ---- the current window
 
+// The current window, where it is a user window.
+fn current_window(s: State) -> Window
+    requires { ⌜ (1 ≤ s .selected) × (s .selected ≤ 4) ⌝ }
+    ensures { λ r. ⌜ r ≡ windowAt (s .windows) (s .selected) ⌝ }
+{
+    let k = s.selected;
+    let i = (k - 1) as usize;
+    s.windows[i]
+}
+
 // The current window's cursor and mode.
 pub fn cursor_of(s: State) -> Cursor
     requires { ⌜ s .selected ≤ 4 ⌝ }
@@ -261,8 +263,7 @@ pub fn cursor_of(s: State) -> Cursor
     if k == 0 {
         return s.base;
     }
-    let windows = s.windows;
-    let w = window_at(windows, k);
+    let w = current_window(s);
     w.cursor
 }
 
@@ -277,9 +278,9 @@ pub fn at_cursor(s: State, c: Cursor) -> State
         t.base = c;
         return t;
     }
-    let windows = s.windows;
-    let w = window_at(windows, k);
-    with_window(s, k, Window { cursor: c, ..w })
+    let mut w = current_window(s);
+    w.cursor = c;
+    with_window(s, k, w)
 }
 
 // The current window in another mode.
@@ -287,8 +288,9 @@ pub fn in_mode(s: State, mode: u8) -> State
     requires { ⌜ s .selected ≤ 4 ⌝ }
     ensures { λ r. ⌜ r ≡ inMode s mode ⌝ }
 {
-    let c = cursor_of(s);
-    at_cursor(s, Cursor { mode, ..c })
+    let mut c = cursor_of(s);
+    c.mode = mode;
+    at_cursor(s, c)
 }
 
 // Whether a place counted from the current window's top left lies in it.
@@ -300,8 +302,7 @@ pub fn inside_window(g: Geometry, s: State, x: u16, y: u16) -> bool
     if k == 0 {
         return ((x as usize) < g.columns) & ((y as usize) < g.rows);
     }
-    let windows = s.windows;
-    let w = window_at(windows, k);
+    let w = current_window(s);
     (x < w.width) & (y < w.height)
 }
 
@@ -314,7 +315,7 @@ fn base_view(g: Geometry, write: u8, c: Cursor) -> View
 {
     let x = c.x as usize;
     let visible = g.visible;
-    let whole = View {
+    let mut view = View {
         left: 0,
         top: 0,
         width: g.columns,
@@ -324,20 +325,16 @@ fn base_view(g: Geometry, write: u8, c: Cursor) -> View
         mode: c.mode,
     };
     if write == 1 {
-        return whole;
+        return view;
     }
     if x < visible {
-        return View {
-            width: visible,
-            ..whole
-        };
+        view.width = visible;
+        return view;
     }
-    View {
-        left: visible,
-        width: g.columns - visible,
-        x: x - visible,
-        ..whole
-    }
+    view.left = visible;
+    view.width = g.columns - visible;
+    view.x = x - visible;
+    view
 }
 
 // A user window's range.
@@ -367,8 +364,7 @@ pub fn view_of(g: Geometry, s: State) -> View
         let c = s.base;
         return base_view(g, v.write, c);
     }
-    let windows = s.windows;
-    window_view(window_at(windows, k))
+    window_view(current_window(s))
 }
 
 // The state with the current window's cursor where a view has it.

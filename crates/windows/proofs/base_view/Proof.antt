@@ -18,4 +18,5 @@ unfolding baseView
 returns-3 c = rw (ne-eqb _ _ (c .before .before .if1 .left), le-ltb _ _ (c .before .if2 .left))
 
 pub base-view-spec : {M : Type 1} → statement M
-base-view-spec = tie.close (tie.spec (λ c. omega arith) (λ c. omega arith) returns returns-2 (λ c. omega arith) returns-3)
+base-view-spec =
+    tie.close (tie.spec (λ c. omega arith) (λ c. omega arith) returns returns-2 (λ c. omega arith) returns-3)

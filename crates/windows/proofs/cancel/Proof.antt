@@ -1,5 +1,4 @@
 -- `windows::cancel` meets its contract: the current window gives way to the base, any other does not. Assumes nothing.
-use borrow.Author.Needs.{needs}
 use borrow.Author.Tests.{eq-eqb, ne-eqb}
 use Rattle.paper.specs.Settings.{cancelled}
 use Rattle.windows.proofs.cancel.Statement.{statement}
@@ -24,4 +23,4 @@ returns-2 c =
     )
 
 pub cancel-spec : {M : Type 1} → statement M
-cancel-spec = tie.close (tie.spec (λ c κs. search needs) (λ c κs. search needs) returns returns-2)
+cancel-spec = tie.close (tie.spec (λ c κs. tt) (λ c κs. c .before .pre) returns returns-2)

@@ -1,5 +1,4 @@
 -- `windows::define` meets its contract: the new window's cursor is at its top left. Assumes nothing.
-use borrow.Author.Needs.{needs}
 use Rattle.windows.proofs.define.Statement.{statement}
 use Rattle.windows.proofs.define.Tie as tie
 
@@ -7,4 +6,4 @@ returns : tie.Need-returns
 returns c = rw (c .before .top-left .ensures) at (c .with-window .ensures)
 
 pub define-spec : {M : Type 1} → statement M
-define-spec = tie.close (tie.spec (λ c κs. search needs) (λ c κs. search needs) returns)
+define-spec = tie.close (tie.spec (λ c κs. tt) (λ c κs. c .before .pre) returns)

@@ -1,5 +1,4 @@
 -- `windows::in_mode` meets its contract: the cursor that is put back is the one read, in the new mode. Assumes nothing.
-use borrow.Author.Needs.{needs}
 use Rattle.paper.specs.Settings.{inMode}
 use Rattle.windows.proofs.in_mode.Statement.{statement}
 use Rattle.windows.proofs.in_mode.Tie as tie
@@ -9,4 +8,4 @@ unfolding inMode
 returns c = rw (c .before .cursor-of .ensures) at (c .at-cursor .ensures)
 
 pub in-mode-spec : {M : Type 1} → statement M
-in-mode-spec = tie.close (tie.spec (λ c κs. search needs) (λ c κs. search needs) returns)
+in-mode-spec = tie.close (tie.spec (λ c κs. c .pre) (λ c κs. c .before .pre) returns)

@@ -1,5 +1,4 @@
 -- `windows::initial_state` meets its contract: its parts are the paper's, and two rows have two spans. Assumes nothing.
-use borrow.Author.Needs.{needs}
 use Rattle.paper.specs.Settings.{initialState}
 use Rattle.windows.proofs.initial_state.Statement.{statement}
 use Rattle.windows.proofs.initial_state.Tie as tie
@@ -15,4 +14,4 @@ returns c =
     )
 
 pub initial-state-spec : {M : Type 1} → statement M
-initial-state-spec = tie.close (tie.spec (λ c κs. search needs) (λ c κs. search needs) (λ c κs. search needs) returns)
+initial-state-spec = tie.close (tie.spec (λ c κs. tt) (λ c κs. tt) (λ c κs. tt) returns)

@@ -1,5 +1,5 @@
 -- `windows::inside_window` meets its contract: the base where 0 is selected, else user window k. Assumes nothing.
-use borrow.Author.Needs.{needs}
+use native.Mathlib.Omega.{arith}
 use borrow.Author.Tests.{eq-eqb, ne-eqb}
 use Rattle.paper.specs.Settings.{insideWindow}
 use Rattle.windows.proofs.inside_window.Statement.{statement}
@@ -13,9 +13,9 @@ returns-2 : tie.Need-returns-2
 unfolding insideWindow
 returns-2 c =
     rw (
-      c .before .before .window-at .ensures,
-      ne-eqb _ _ (c .before .before .before .before .if1 .left),
+      c .before .before .current-window .ensures,
+      ne-eqb _ _ (c .before .before .before .if1 .left),
     )
 
 pub inside-window-spec : {M : Type 1} → statement M
-inside-window-spec = tie.close (tie.spec returns (λ c κs. search needs) returns-2)
+inside-window-spec = tie.close (tie.spec returns (λ c κs. omega arith) returns-2)

@@ -17,10 +17,18 @@ returns-3 : tie.Need-returns-3
 unfolding selectable
 returns-3 c =
     rw (
-      c .before .window-at .ensures,
       ne-eqb _ _ (c .before .before .before .if1 .left),
       le-leb _ _ (c .before .before .if2 .left),
     )
 
 pub is-selectable-spec : {M : Type 1} → statement M
-is-selectable-spec = tie.close (tie.spec returns returns-2 (λ c κs. search needs) returns-3)
+is-selectable-spec =
+    tie.close
+    (tie.spec
+    returns
+    returns-2
+    (λ c. search needs)
+    (λ c. search needs)
+    (λ c. search needs)
+    (λ c. search needs)
+    returns-3)

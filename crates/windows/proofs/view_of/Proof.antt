@@ -1,5 +1,5 @@
 -- `windows::view_of` meets its contract: the base where 0 is selected, else user window k. Assumes nothing.
-use borrow.Author.Needs.{needs}
+use native.Mathlib.Omega.{arith}
 use borrow.Author.Tests.{eq-eqb, ne-eqb}
 use Rattle.paper.specs.Settings.{viewOf}
 use Rattle.windows.proofs.view_of.Statement.{statement}
@@ -12,8 +12,15 @@ returns c = rw (eq-eqb _ _ (c .before .before .before .if1 .taken)) (c .base-vie
 returns-2 : tie.Need-returns-2
 unfolding viewOf
 returns-2 c =
-    rw (ne-eqb _ _ (c .before .before .before .if1 .left))
-    (rw (c .before .window-at .ensures) at (c .window-view .ensures))
+    rw (ne-eqb _ _ (c .before .before .if1 .left))
+    (rw (c .before .current-window .ensures) at (c .window-view .ensures))
 
 pub view-of-spec : {M : Type 1} → statement M
-view-of-spec = tie.close (tie.spec (λ c κs. search needs) returns (λ c κs. search needs) (λ c κs. search needs) returns-2)
+view-of-spec =
+    tie.close
+    (tie.spec
+    (λ c κs. c .before .before .before .pre .1)
+    returns
+    (λ c κs. omega arith)
+    (λ c κs. tt)
+    returns-2)

@@ -1,4 +1,4 @@
--- `windows::with_view` meets its contract: counted from memory's top left where 0 is selected, else from the window's. Assumes nothing.
+-- `windows::with_view` meets its contract: counted from memory where 0 is selected, else from the window. Assumes nothing.
 use native.Mathlib.Omega.{arith}
 use borrow.Author.Tests.{eq-eqb, ne-eqb}
 use Rattle.paper.specs.Settings.{cursorIn}
