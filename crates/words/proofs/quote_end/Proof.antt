@@ -1,0 +1,27 @@
+-- `words::quote_end` is safe, ends and stays in the line. The measure is what is left of the line.
+use borrow.Author.Needs.{needs}
+use Prim.Native.Nat.{_≤_, _-_}
+use lib.ListN.{length}
+use Rattle.words.proofs.quote_end.Statement.{statement}
+use Rattle.words.proofs.quote_end.Tie as tie
+
+abbrev Inv-loop : tie.InvT-loop
+Inv-loop line at i₀ i = (at ≤ i) × (i ≤ length line)
+
+abbrev μ-loop : tie.MeasureT-loop
+μ-loop line at i₀ i = length line - i
+
+pub quote-end-spec : {M : Type 1} → statement M
+quote-end-spec =
+    tie.close
+    (tie.spec
+    Inv-loop
+    μ-loop
+    (λ c. search needs)
+    (λ c. search needs)
+    (λ c κs. search needs)
+    (λ c. search needs)
+    (λ c. search needs)
+    (λ c. search needs)
+    (λ c. search needs)
+    (λ c. search needs))
