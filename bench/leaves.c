@@ -1,13 +1,10 @@
 /* The leaves that write memory and glass, measured against plain C that does
  * the same: both in one program, on the same bytes, as ratios. Every result is
  * compared before it is timed. */
-#define _POSIX_C_SOURCE 200809L
-#include <stddef.h>
+#include "measure.h"
 #include <stdint.h>
-#include <stdio.h>
 #include <stdlib.h>
 #include <string.h>
-#include <time.h>
 
 /* ---- the proved leaves (crates/leaves): a slice is a pointer and a length */
 void leaf_clear(uint8_t *mem, size_t n, uint16_t left, uint16_t top, uint16_t width, uint16_t height);
@@ -100,13 +97,6 @@ static void fill(void)
     memset(their_glass, 0xC3, sizeof their_glass);
 }
 
-static double now(void)
-{
-    struct timespec t;
-    clock_gettime(CLOCK_MONOTONIC, &t);
-    return (double)t.tv_sec + 1e-9 * (double)t.tv_nsec;
-}
-
 static void same(const char *name)
 {
     if (memcmp(ours, theirs, sizeof ours) || memcmp(our_glass, their_glass, sizeof our_glass)) {
@@ -115,28 +105,9 @@ static void same(const char *name)
     }
 }
 
-/* The best of nine rounds each, in turn, so that both meet the same machine. */
-#define MEASURE(name, times, a, b)                                                   \
-    do {                                                                             \
-        fill();                                                                      \
-        for (unsigned i = 0; i < 64; i++) { a; b; same(name); }                      \
-        double best_a = 1e9, best_b = 1e9;                                           \
-        for (int round = 0; round < 9; round++) {                                    \
-            double t0 = now();                                                       \
-            for (unsigned i = 0; i < (times); i++) { a; }                            \
-            double t1 = now();                                                       \
-            for (unsigned i = 0; i < (times); i++) { b; }                            \
-            double t2 = now();                                                       \
-            if (t1 - t0 < best_a) best_a = t1 - t0;                                  \
-            if (t2 - t1 < best_b) best_b = t2 - t1;                                  \
-        }                                                                            \
-        printf("%-34s %8.1f ns %8.1f ns   %5.2f\n", name, 1e9 * best_a / (times),    \
-               1e9 * best_b / (times), best_a / best_b);                             \
-    } while (0)
-
 int main(void)
 {
-    printf("%-34s %11s %11s   %5s\n", "leaf", "proved", "plain C", "ratio");
+    HEADING("leaf", "plain C");
     MEASURE("clear, 112 by 2", 100000, leaf_clear(ours, 1024, 0, 0, 112, 2), plain_clear(theirs, 0, 0, 112, 2));
     MEASURE("clear, 14 by 1", 1000000, leaf_clear(ours, 1024, 10, 0, 14, 1), plain_clear(theirs, 10, 0, 14, 1));
     MEASURE("scroll up 1, 112 by 2", 100000, leaf_scroll_up(ours, 1024, 0, 0, 112, 2, 1), plain_scroll_up(theirs, 0, 0, 112, 2, 1));
