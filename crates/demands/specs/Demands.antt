@@ -1,0 +1,135 @@
+-- The three demands on the five calls, sentence by sentence. proofs/Demands shows each of them. Assumes nothing.
+use mathlib.Core.Path.{_≡_}
+use mathlib.Core.Logic.{_↔_, _≢_, _⊎_}
+use mathlib.Core.Bool.{Bool, true, false, _&&_}
+use mathlib.Core.List.{List, [], _∷_, _++_}
+use Prim.Native.Nat.{ℕ, _+_, _<_, _≤_}
+use lib.ListN.{length, getD, replicate}
+use Rattle.paper.specs.declared.Geometry.{Geometry}
+use Rattle.paper.specs.declared.Settings.{Settings}
+use Rattle.paper.specs.declared.Half.the-variants.{Nothing}
+use Rattle.paper.specs.declared.Command.{Command}
+use Rattle.paper.specs.declared.Reading.{Reading}
+use Rattle.paper.specs.declared.Reading.the-variants.{More, Whole, Picture, PictureEnd, Cancels, UnknownCode}
+use Rattle.paper.specs.declared.Refusal.the-variants.{Accepted}
+use Rattle.paper.specs.declared.State.{State}
+use Rattle.paper.specs.Panel.{memoryLength, glassLength, fontLength, columnOf, rowOf}
+use Rattle.paper.specs.Strokes.{noSpan, spanHolds, applyAll, refreshed, shownAll}
+use Rattle.paper.specs.Numbers.{refusalNumber, outcomeNumber, carriedBy, answeredBy}
+use Rattle.paper.specs.Reading.{between, readOf}
+use Rattle.paper.specs.Settings.{initialState, withHalf, withSpans, windowAt, isDefined}
+use Rattle.paper.specs.Bounds.{accepted}
+use Rattle.paper.specs.Cells.{eraseStroke}
+use Rattle.paper.specs.Carry.{notCarried, isHeld, ownersOnly, outOfDomain, notDefined, cellExceeds, byteMeans}
+use Rattle.paper.specs.Calls.{Feeding, feeding, settled, fedNothing, started, startCall, feedCall, heldBy, holdCall, released, releaseCall, emptied, refreshCall}
+use Rattle.kept.specs.Guest.{Holding, Guest, OnlyInside}
+use Rattle.demands.specs.Events.{Event, refresh, joined, Play, play, noSpans, spansSince, owed, visible}
+
+-- ==== DEMAND 1. "Any bytes, buffers and state record may be handed in. Each call answers or refuses by document 01's numbers,
+-- in its order. A refused call changes no lent byte and hands the state back unchanged."
+-- Every number is given exactly when its row holds and none that is tested before it does; 0 is a call that is not refused.
+
+-- ---- "Start: 1."
+
+abbrev pub startNumber : Geometry → List ℕ → ℕ
+startNumber g m = refusalNumber (startCall g m .answer .refusal)
+
+pub record StartAnswers (g : Geometry) (m : List ℕ) : Type 0 where
+  -- 1: "memory is not 1,024 bytes"
+  pub number-1 : (startNumber g m ≡ 1) ↔ (length m ≢ memoryLength g)
+  pub number-0 : (startNumber g m ≡ 0) ↔ (length m ≡ memoryLength g)
+  -- "refused, it gives the initial state with both spans empty", and nothing lent changes
+  pub refused : startNumber g m ≢ 0 → (startCall g m .answer .state ≡ initialState g) × (startCall g m .mem ≡ m)
+  -- "Start does the same [as initialise] and marks all as written."
+  pub taken : startNumber g m ≡ 0
+      → (startCall g m .answer .state ≡ started g) × (startCall g m .mem ≡ applyAll g m (eraseStroke g ∷ []))
+
+-- ---- "Feed: 1, 2, 8."
+
+abbrev pub feedNumber : Geometry → List ℕ → State → List ℕ → List ℕ → ℕ
+feedNumber g font s m bytes = refusalNumber (feedCall g font s m bytes .answer .refusal)
+
+-- "nothing lent and nothing in the state changes, and every count given back is 0", and the outcome is 9
+pub record NothingFed (s : State) (m : List ℕ) (f : Feeding) : Type 0 where
+  pub state : f .answer .state ≡ s
+  pub mem : f .mem ≡ m
+  pub carried : f .answer .carried ≡ 0
+  pub answered : f .answer .answered ≡ 0
+  pub outcome : outcomeNumber (f .answer .outcome) ≡ 9
+
+pub record FeedAnswers (g : Geometry) (font : List ℕ) (s : State) (m bytes : List ℕ) : Type 0 where
+  -- 1: "memory is not 1,024 bytes"
+  pub number-1 : (feedNumber g font s m bytes ≡ 1) ↔ (length m ≢ memoryLength g)
+  -- 2: "font is not 1,120 bytes"
+  pub number-2 : (feedNumber g font s m bytes ≡ 2) ↔ ((length m ≡ memoryLength g) × (length font ≢ fontLength))
+  -- 8: "state record breaks a bound of this paper"
+  pub number-8 : (feedNumber g font s m bytes ≡ 8)
+      ↔ ((length m ≡ memoryLength g) × ((length font ≡ fontLength) × (accepted g s ≡ false)))
+  pub number-0 : (feedNumber g font s m bytes ≡ 0)
+      ↔ ((length m ≡ memoryLength g) × ((length font ≡ fontLength) × (accepted g s ≡ true)))
+  pub refused : feedNumber g font s m bytes ≢ 0 → NothingFed s m (feedCall g font s m bytes)
+
+-- ---- "Hold: 8, 6, 4, 5."
+
+abbrev pub holdNumber : Geometry → State → ℕ → ℕ
+holdNumber g s k = refusalNumber (holdCall g s k .refusal)
+
+pub record HoldAnswers (g : Geometry) (s : State) (k : ℕ) : Type 0 where
+  -- 8: "state record breaks a bound of this paper"
+  pub number-8 : (holdNumber g s k ≡ 8) ↔ (accepted g s ≡ false)
+  -- 6: "hold while held"
+  pub number-6 : (holdNumber g s k ≡ 6) ↔ ((accepted g s ≡ true) × (isHeld (s .hold) ≡ true))
+  -- 4: "window to hold is not 1 to 4"
+  pub number-4 : (holdNumber g s k ≡ 4)
+      ↔ ((accepted g s ≡ true) × ((isHeld (s .hold) ≡ false) × (between 1 4 k ≡ false)))
+  -- 5: "window to hold is not defined"
+  pub number-5 : (holdNumber g s k ≡ 5)
+      ↔ ((accepted g s ≡ true) × ((isHeld (s .hold) ≡ false)
+      × ((between 1 4 k ≡ true) × (isDefined (windowAt (s .windows) k) ≡ false))))
+  pub number-0 : (holdNumber g s k ≡ 0)
+      ↔ ((accepted g s ≡ true) × ((isHeld (s .hold) ≡ false)
+      × ((between 1 4 k ≡ true) × (isDefined (windowAt (s .windows) k) ≡ true))))
+  pub refused : holdNumber g s k ≢ 0 → holdCall g s k .state ≡ s
+  -- "Hold k drops a half-read command, saves all settings and the selected window, and selects k."
+  pub taken : holdNumber g s k ≡ 0 → holdCall g s k .state ≡ heldBy s k
+
+-- ---- "Release: 8, 7."
+
+abbrev pub releaseNumber : Geometry → State → ℕ
+releaseNumber g s = refusalNumber (releaseCall g s .refusal)
+
+pub record ReleaseAnswers (g : Geometry) (s : State) : Type 0 where
+  -- 8: "state record breaks a bound of this paper"
+  pub number-8 : (releaseNumber g s ≡ 8) ↔ (accepted g s ≡ false)
+  -- 7: "release while not held"
+  pub number-7 : (releaseNumber g s ≡ 7) ↔ ((accepted g s ≡ true) × (isHeld (s .hold) ≡ false))
+  pub number-0 : (releaseNumber g s ≡ 0) ↔ ((accepted g s ≡ true) × (isHeld (s .hold) ≡ true))
+  pub refused : releaseNumber g s ≢ 0 → releaseCall g s .state ≡ s
+  -- "Release drops a half-read command and puts the saved settings and selection back"
+  pub taken : releaseNumber g s ≡ 0 → releaseCall g s .state ≡ released s
+
+-- ---- "Refresh: 1, 3, 8."
+
+abbrev pub refreshNumber : Geometry → State → List ℕ → List ℕ → ℕ
+refreshNumber g s m glass = refusalNumber (refreshCall g s m glass .answer .refusal)
+
+pub record RefreshAnswers (g : Geometry) (s : State) (m glass : List ℕ) : Type 0 where
+  -- 1: "memory is not 1,024 bytes"
+  pub number-1 : (refreshNumber g s m glass ≡ 1) ↔ (length m ≢ memoryLength g)
+  -- 3: "glass is not 224 bytes"
+  pub number-3 : (refreshNumber g s m glass ≡ 3) ↔ ((length m ≡ memoryLength g) × (length glass ≢ glassLength g))
+  -- 8: "state record breaks a bound of this paper"
+  pub number-8 : (refreshNumber g s m glass ≡ 8)
+      ↔ ((length m ≡ memoryLength g) × ((length glass ≡ glassLength g) × (accepted g s ≡ false)))
+  pub number-0 : (refreshNumber g s m glass ≡ 0)
+      ↔ ((length m ≡ memoryLength g) × ((length glass ≡ glassLength g) × (accepted g s ≡ true)))
+  -- the state and the glass stay, and the count is 0
+  pub refused : refreshNumber g s m glass ≢ 0
+      → (refreshCall g s m glass .answer .state ≡ s) × (refreshCall g s m glass .answer .moved ≡ 0)
+      × (refreshCall g s m glass .glass ≡ glass)
+  -- "Refresh copies each span's visible columns, changes no other glass byte, empties both spans, and reports the number of
+  -- bytes moved, which is the sum of the visible span lengths"
+  pub taken : refreshNumber g s m glass ≡ 0
+      → (refreshCall g s m glass .answer .state ≡ emptied g s)
+      × (refreshCall g s m glass .answer .moved ≡ shownAll g (s .spans))
+      × (refreshCall g s m glass .glass ≡ refreshed g m (s .spans) glass)
