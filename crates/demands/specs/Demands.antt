@@ -20,8 +20,8 @@ use Rattle.paper.specs.Reading.{between, readOf}
 use Rattle.paper.specs.Settings.{initialState, withHalf, withSpans, windowAt, isDefined}
 use Rattle.paper.specs.Bounds.{accepted}
 use Rattle.paper.specs.Cells.{eraseStroke}
-use Rattle.paper.specs.Carry.{notCarried, isHeld, ownersOnly, outOfDomain, notDefined, cellExceeds, byteMeans}
-use Rattle.paper.specs.Calls.{Feeding, feeding, settled, fedNothing, started, startCall, feedCall, heldBy, holdCall, released, releaseCall, emptied, refreshCall}
+use Rattle.paper.specs.Carry.{notCarried, isHeld, ownersOnly, outOfDomain, notDefined, cellExceeds, Meaning}
+use Rattle.paper.specs.Calls.{Feeding, feeding, settled, run, fedNothing, started, startCall, feedCall, heldBy, holdCall, released, releaseCall, emptied, refreshCall}
 use Rattle.kept.specs.Guest.{Holding, Guest, OnlyInside}
 use Rattle.demands.specs.Events.{Event, refresh, joined, Play, play, noSpans, spansSince, owed, visible}
 
@@ -133,3 +133,99 @@ pub record RefreshAnswers (g : Geometry) (s : State) (m glass : List ℕ) : Type
       → (refreshCall g s m glass .answer .state ≡ emptied g s)
       × (refreshCall g s m glass .answer .moved ≡ shownAll g (s .spans))
       × (refreshCall g s m glass .glass ≡ refreshed g m (s .spans) glass)
+
+-- ==== DEMAND 2. "After every byte, dots, cursors, windows, modes and outcome are document 01's; an out-of-range command has the
+-- effect given there and no other." Feeding single bytes shows every outcome; a fed piece is the fold.
+
+-- ---- one byte
+
+-- t is what document 01 has one byte come to: "So feeding single bytes shows every outcome."
+pub record ByteFed (g : Geometry) (m : List ℕ) (t : Meaning) (f : Feeding) : Type 0 where
+  pub refusal : refusalNumber (f .answer .refusal) ≡ 0
+  pub outcome : f .answer .outcome ≡ t .outcome
+  -- dots
+  pub mem : f .mem ≡ applyAll g m (t .strokes)
+  -- cursors, windows, modes, settings, what is half read; and the spans, grown by what was written
+  pub state : f .answer .state ≡ settled t
+  -- "two counts: commands carried out, and commands answered 11 to 17"
+  pub carried : f .answer .carried ≡ carriedBy (t .outcome)
+  pub answered : f .answer .answered ≡ answeredBy (t .outcome)
+
+-- what a byte is read as: it finishes nothing, or ends an image, or makes a command whole of which P holds
+abbrev pub finishes : Reading → Bool
+finishes (More p) = false
+finishes (Whole c) = true
+finishes (Picture column row b next) = false
+finishes (PictureEnd column row b) = true
+finishes Cancels = true
+finishes UnknownCode = true
+
+abbrev pub endsImage : Reading → Bool
+endsImage (More p) = false
+endsImage (Whole c) = false
+endsImage (Picture column row b next) = false
+endsImage (PictureEnd column row b) = true
+endsImage Cancels = false
+endsImage UnknownCode = false
+
+abbrev pub IsCommand : Reading → (Command → Type 0) → Type 0
+IsCommand r P = (c : Command) × (r ≡ Whole c) × P c
+
+-- "Order for one command: .. then 14, 15, 11, 17, 16": P, and of a row and those before it none holds
+abbrev pub After14 : Command → Type 0 → Type 0
+After14 c P = (notCarried c ≡ false) × P
+
+abbrev pub After15 : State → Command → Type 0 → Type 0
+After15 s c P = After14 c (((ownersOnly c && isHeld (s .hold)) ≡ false) × P)
+
+abbrev pub After11 : Geometry → State → Command → Type 0 → Type 0
+After11 g s c P = After15 s c ((outOfDomain g s c ≡ false) × P)
+
+abbrev pub After17 : Geometry → State → Command → Type 0 → Type 0
+After17 g s c P = After11 g s c ((notDefined s c ≡ false) × P)
+
+-- s is the state with nothing half read, r what the byte was read as, t what it comes to
+pub record ByteAnswers (g : Geometry) (s : State) (r : Reading) (t : Meaning) : Type 0 where
+  -- 9: "when that byte finished nothing"
+  pub number-9 : (outcomeNumber (t .outcome) ≡ 9) ↔ (finishes r ≡ false)
+  -- 10: "when it finished a command that was carried out"
+  pub number-10 : (outcomeNumber (t .outcome) ≡ 10)
+      ↔ ((endsImage r ≡ true) ⊎ IsCommand r (λ c. After17 g s c (cellExceeds g s c ≡ false)))
+  -- 11: "command read whole, a parameter out of its domain"
+  pub number-11 : (outcomeNumber (t .outcome) ≡ 11) ↔ IsCommand r (λ c. After15 s c (outOfDomain g s c ≡ true))
+  -- 12: "cancelled at a byte"
+  pub number-12 : (outcomeNumber (t .outcome) ≡ 12) ↔ (r ≡ Cancels)
+  -- 13: "unknown code, given at the byte that makes it unknown"
+  pub number-13 : (outcomeNumber (t .outcome) ≡ 13) ↔ (r ≡ UnknownCode)
+  -- 14: "not carried, read whole"
+  pub number-14 : (outcomeNumber (t .outcome) ≡ 14) ↔ IsCommand r (λ c. notCarried c ≡ true)
+  -- 15: "refused because a window is held, read whole"
+  pub number-15 : (outcomeNumber (t .outcome) ≡ 15)
+      ↔ IsCommand r (λ c. After14 c ((ownersOnly c && isHeld (s .hold)) ≡ true))
+  -- 16: "a character, BS, HT or LF while the character cell exceeds the range"
+  pub number-16 : (outcomeNumber (t .outcome) ≡ 16) ↔ IsCommand r (λ c. After17 g s c (cellExceeds g s c ≡ true))
+  -- 17: "select of an undefined window"
+  pub number-17 : (outcomeNumber (t .outcome) ≡ 17) ↔ IsCommand r (λ c. After11 g s c (notDefined s c ≡ true))
+  -- "no dot, cursor, window or setting changes by a command so answered": nothing is half read, and that is all
+  pub unchanged : 11 ≤ outcomeNumber (t .outcome) → (t .state ≡ s) × (t .strokes ≡ [])
+
+-- ---- a piece
+
+-- one more byte fed, by itself, and its counts added
+abbrev pub fedOnce : Geometry → List ℕ → Feeding → ℕ → Feeding
+fedOnce g font f b =
+    let h = feedCall g font (f .answer .state) (f .mem) (b ∷ []) in
+    feeding (h .answer .refusal) (h .answer .state) (f .answer .carried + h .answer .carried)
+    (f .answer .answered + h .answer .answered) (h .answer .outcome) (h .mem)
+
+-- every byte of a piece fed by itself
+abbrev pub fedSingly : Geometry → List ℕ → Feeding → List ℕ → Feeding
+fedSingly g font f [] = f
+fedSingly g font f (b ∷ bs) = fedSingly g font (fedOnce g font f b) bs
+
+-- "A feed takes the whole piece and gives two counts .. It also gives the outcome of the piece's last byte"
+pub record PieceFed (g : Geometry) (font : List ℕ) (s : State) (m bytes : List ℕ) : Type 0 where
+  -- the piece is the fold of its bytes
+  pub folded : feedCall g font s m bytes ≡ run g font (fedNothing Accepted s m) bytes
+  -- and is what its bytes give one by one, counts summed
+  pub singly : feedCall g font s m bytes ≡ fedSingly g font (fedNothing Accepted s m) bytes
