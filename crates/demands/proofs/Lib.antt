@@ -1,3 +1,5 @@
 pub mod Rows
 pub mod Calls
 pub mod Outcomes
+pub mod Unseen
+pub mod Events

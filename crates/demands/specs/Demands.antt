@@ -229,3 +229,43 @@ pub record PieceFed (g : Geometry) (font : List ℕ) (s : State) (m bytes : List
   pub folded : feedCall g font s m bytes ≡ run g font (fedNothing Accepted s m) bytes
   -- and is what its bytes give one by one, counts summed
   pub singly : feedCall g font s m bytes ≡ fedSingly g font (fedNothing Accepted s m) bytes
+
+-- ==== DEMAND 3. "From any accepted state with a user window held and the glass in step, any bytes, cut anywhere, with refreshes
+-- anywhere between, give what document 01 gives for the joined bytes; no cell outside the window changes, its cursor stays
+-- inside; after a last refresh the glass equals the visible memory, and each refresh moved only the spans written since the one
+-- before."
+
+-- what is begun with: window k is held, the glass equals the visible memory, both spans are empty, and the lent bytes are as
+-- many as asked
+pub record InStep (g : Geometry) (font : List ℕ) (k back : ℕ) (v : Settings) (s : State) (m glass : List ℕ) : Type 0 where
+  pub holding : Holding g k back v s
+  pub spans : s .spans ≡ noSpans g
+  pub shows : glass ≡ visible g m
+  pub memory : length m ≡ memoryLength g
+  pub fonts : length font ≡ fontLength
+
+-- p is what the pieces and refreshes come to, one is what the joined bytes come to, fed at once, and last is p with one more
+-- refresh
+pub record Served (g : Geometry) (font : List ℕ) (k back : ℕ) (v : Settings) (s : State) (m : List ℕ) (events : List Event)
+    (p : Play) (one : Feeding) (last : Play) : Type 0 where
+  -- no call is refused
+  pub refusals : p .refusals ≡ replicate (length events) Accepted
+  -- "what document 01 gives for the joined bytes": memory, the summed counts, and the state: cursors, settings, windows, hold
+  -- and what is half read; its spans hold what was written since the last refresh
+  pub mem : p .mem ≡ one .mem
+  pub carried : p .carried ≡ one .answer .carried
+  pub answered : p .answered ≡ one .answer .answered
+  pub state : p .state ≡ withSpans (one .answer .state) (spansSince g font s [] events)
+  -- "no cell outside the window changes"
+  pub outside : OnlyInside g k s m (p .mem)
+  -- "its cursor stays inside", and its rectangle, the hold, the selection, the base and the other windows are as they were
+  pub guest : Guest k back v s (p .state)
+  -- "after a last refresh the glass equals the visible memory"
+  pub shows : last .glass ≡ visible g (p .mem)
+  -- "each refresh moved only the spans written since the one before": as many bytes as these have, "224 at most"
+  pub moved : p .moved ≡ owed g font s [] events
+  pub most : (i : ℕ) → getD (p .moved) i 0 ≤ glassLength g
+  -- and no other byte of the glass
+  pub only : (a : ℕ) → a < glassLength g
+      → spanHolds (getD (spansSince g font s [] events) (rowOf g a) noSpan) (columnOf g a) ≡ false
+      → getD (last .glass) a 0 ≡ getD (p .glass) a 0
