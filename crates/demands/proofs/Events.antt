@@ -1,11 +1,11 @@
 -- Demand 3, by induction over the events: what pieces and refreshes in any order come to. Assumes nothing.
 use mathlib.Core.Path.{_≡_, refl, sym, ap, subst, subst₂, _∙_}
-use mathlib.Core.Bool.{true, false}
+use mathlib.Core.Bool.{true}
 use mathlib.Core.List.{List, [], _∷_, _++_}
 use Prim.Native.Nat.{ℕ, zero, suc, _+_, _≤_}
 use native.Mathlib.Nat.{mul-le-mul-left}
 use native.Mathlib.Omega.{arith}
-use lib.ListN.{length, getD, replicate, take, length-replicate}
+use lib.ListN.{length, getD, replicate, length-replicate}
 use lib.Seq.{length-take-le, getD-take}
 use borrow.Author.Tests.{eq-eqb}
 use Rattle.paper.specs.declared.Geometry.{Geometry}
@@ -14,17 +14,19 @@ use Rattle.paper.specs.declared.Span.{Span}
 use Rattle.paper.specs.declared.Refusal.{Refusal}
 use Rattle.paper.specs.declared.Refusal.the-variants.{Accepted}
 use Rattle.paper.specs.declared.State.{State}
-use Rattle.paper.specs.Panel.{memoryLength, glassLength, fontLength, columnOf, rowOf}
-use Rattle.paper.specs.Strokes.{Stroke, noSpan, spanHolds, applyAll, markAll, refreshed, shownAll}
+use Rattle.paper.specs.Panel.{memoryLength, glassLength, fontLength}
+use Rattle.paper.specs.Strokes.{Stroke, noSpan, applyAll, markAll, refreshed, shownAll}
 use Rattle.paper.specs.Settings.{withSpans}
 use Rattle.paper.specs.Bounds.{accepted}
-use Rattle.paper.specs.Calls.{isAccepted, Feeding, feeding, run, fedNothing, feedCall, Refreshing, refreshing, refreshRefusal, emptied, refreshCall}
+use Rattle.paper.specs.Calls.{isAccepted, Feeding, feeding, run, feedRefusal, fedNothing, feedCall, Refreshing, refreshing, refreshRefusal, emptied, refreshCall, heldBy, holdCall}
 use Rattle.kept.specs.Room.{Usable}
-use Rattle.kept.specs.Guest.{Holding, Guest, OnlyInside}
+use Rattle.kept.specs.Sized.{Sized}
+use Rattle.kept.specs.Guest.{Guest, OnlyInside}
 use Rattle.kept.specs.Joined.{Joined}
+use Rattle.kept.proofs.Tests.{by-cond}
 use Rattle.kept.proofs.Accepted.{run-accepted}
-use Rattle.kept.proofs.Calls.{emptied-accepted, feed-keeps}
-use Rattle.kept.proofs.Refusals.{feed-taken}
+use Rattle.kept.proofs.Calls.{held-accepted, emptied-accepted, feed-keeps}
+use Rattle.kept.proofs.Refusals.{feed-given, feed-taken}
 use Rattle.kept.proofs.Joined.{feed-runs, run-refusal}
 use Rattle.kept.proofs.Pieces.{pieces-joined}
 use Rattle.kept.proofs.Held.{feed-guest, feed-outside}
@@ -34,10 +36,10 @@ use Rattle.dots.proofs.Glass.{covered, covered-test, refreshed-length, refreshe
 use Rattle.dots.proofs.Tests.{not-both}
 use Rattle.stroke_laws.specs.Kept.{Synced}
 use Rattle.stroke_laws.proofs.Glass.{strokes-synced, refreshed-shows, refreshed-synced}
-use Rattle.demands.specs.Events.{Event, piece, refresh, joined, Play, resting, fedThen, refreshedThen, play, onwards, strokesOf, noSpans, spansSince, owed, visible}
-use Rattle.demands.specs.Demands.{InStep, Served}
-use Rattle.demands.proofs.Calls.{refresh-answers}
-use Rattle.demands.proofs.Unseen.{refed, run-same, run-state, run-mem}
+use Rattle.demands.specs.Events.{Event, piece, refresh, joined, Play, play, onwards, strokesOf, noSpans, spansSince, owed, visible}
+use Rattle.demands.specs.Demands.{holdNumber, InStep, Served}
+use Rattle.demands.proofs.Calls.{hold-answers}
+use Rattle.demands.proofs.Unseen.{run-same, run-state, run-mem, run-spans}
 
 -- ---- refreshes
 
@@ -275,3 +277,40 @@ module _ (g : Geometry) (u : Usable g) (font : List ℕ) (k back : ℕ) (v : Set
             ∙ refreshed-out g (p .mem) since (p .glass) n (omega (arith, a .size))
             (λ c. not-both (covered g since n) out (covered-test g since n c));
       }
+
+-- ---- how it is begun
+
+-- a feed, refused or not, keeps a glass in step that shows memory wherever no span is
+pub feed-in-step : (g : Geometry) → Usable g → (font : List ℕ) (s : State) (m glass bytes : List ℕ) → Sized g s
+    → Synced g m glass (s .spans)
+    → let f = feedCall g font s m bytes in Synced g (f .mem) glass (f .answer .state .spans)
+unfolding feedCall
+feed-in-step g u font s m glass bytes sized synced =
+    by-cond (λ (f : Feeding). Synced g (f .mem) glass (f .answer .state .spans)) (isAccepted (feedRefusal g font s m))
+    (λ e.
+    let start = fedNothing Accepted s m in
+    subst₂ (λ (n : List ℕ) (ps : List Span). Synced g n glass ps) (sym (run-mem g font start bytes))
+    (sym (run-spans g font start bytes))
+    (strokes-synced g m glass (s .spans) (strokesOf g font s bytes) (sized .spans)
+    (glass-fits g u m (feed-given g font s m e .0)) synced))
+    (λ _. synced)
+
+-- a hold that is not refused, and then a refresh
+pub holds-in-step : (g : Geometry) → Usable g → (font : List ℕ) (s : State) (k : ℕ) (m glass : List ℕ)
+    → length font ≡ fontLength → length m ≡ memoryLength g → length glass ≡ glassLength g → Synced g m glass (s .spans)
+    → holdNumber g s k ≡ 0
+    → let r = refreshCall g (holdCall g s k .state) m glass in
+    InStep g font k (s .selected) (s .settings) (r .answer .state) m (r .glass)
+unfolding heldBy emptied
+holds-in-step g u font s k m glass fonts l z synced n =
+    let a = hold-answers g s k in
+    let f = a .number-0 .0 n in
+    let h = held-accepted g s (f .0) k (f .1 .1 .0) (f .1 .1 .1) in
+    rw (a .taken n, refresh-runs g (heldBy s k) m glass l z h)
+    (record {
+      holding = record { accepts = emptied-accepted g (heldBy s k) h; held = refl };
+      spans = refl;
+      shows = refreshed-shows g m glass (s .spans) z synced (glass-fits g u m l);
+      memory = l;
+      fonts = fonts;
+    })

@@ -3,3 +3,4 @@ pub mod Calls
 pub mod Outcomes
 pub mod Unseen
 pub mod Events
+pub mod Demands

@@ -168,3 +168,7 @@ module _ (g : Geometry) (font : List ℕ) where
   run-mem f (b ∷ bs) =
       let t = byteMeans g font (f .answer .state) b in
       run-mem (next g font f b) bs ∙ sym (apply-append g (f .mem) (t .strokes) (strokesOf g font (settled t) bs))
+
+  pub run-spans : (f : Feeding) (bs : List ℕ)
+      → run g font f bs .answer .state .spans ≡ markAll (f .answer .state .spans) (strokesOf g font (f .answer .state) bs)
+  run-spans f bs = ap (λ (q : Feeding). q .answer .state .spans) (run-same (f .answer .state .spans) f bs)
