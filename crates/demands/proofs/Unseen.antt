@@ -14,13 +14,14 @@ use Rattle.paper.specs.declared.Command.{Command}
 use Rattle.paper.specs.declared.Command.the-variants.{Character, Back, Tab, LineFeed, Home, Clear, Return, Select, Initialise, Mode, Set, Enlarge, CursorSet, Define, Cancel, Uncarried}
 use Rattle.paper.specs.declared.Reading.{Reading}
 use Rattle.paper.specs.declared.Reading.the-variants.{More, Whole, Picture, PictureEnd, Cancels, UnknownCode}
-use Rattle.paper.specs.declared.Outcome.the-variants.{Carried}
+use Rattle.paper.specs.declared.Outcome.{Outcome}
+use Rattle.paper.specs.declared.Outcome.the-variants.{Carried, OutOfDomain, NotCarried, WindowHeld, TooLarge, NotDefined}
 use Rattle.paper.specs.declared.State.{State}
 use Rattle.paper.specs.Strokes.{applyAll, markAll}
 use Rattle.paper.specs.Reading.{readOf}
 use Rattle.paper.specs.Settings.{withHalf, withSelected, withSpans, noWindow, defined, cancelled, cursorOf, atCursor, inMode, insideWindow, viewOf, cursorIn, withView}
 use Rattle.paper.specs.Moves.{Moved, htOf, characterOf, lineFeedOf, clearOf}
-use Rattle.paper.specs.Carry.{Meaning, means, moves, becomes, isHeld, notCarried, ownersOnly, outOfDomain, notDefined, cellExceeds, widthNow, heightNow, carriedOut, commandOf, imageStrokes, takeOf, byteMeans}
+use Rattle.paper.specs.Carry.{Meaning, means, moves, becomes, isHeld, notCarried, ownersOnly, outOfDomain, notDefined, cellExceeds, widthNow, heightNow, carriedOut, answers, commandOf, imageStrokes, takeOf, byteMeans}
 use Rattle.paper.specs.Calls.{Feeding, feeding, settled, counted, next, run}
 use Rattle.dots.proofs.Strokes.{apply-append}
 use Rattle.dots.proofs.Spans.{marks-append}
@@ -28,8 +29,8 @@ use Rattle.demands.specs.Events.{onwards, strokesOf}
 
 -- ---- one byte
 
--- a meaning with other spans
-abbrev respan : List Span → Meaning → Meaning
+-- a meaning with other spans; shut, so that a test under it is not written out for each field of a state
+unfoldable pub respan : List Span → Meaning → Meaning
 respan ps t = means (withSpans (t .state) ps) (t .outcome) (t .strokes)
 
 -- a test picks the same on both sides
@@ -48,8 +49,14 @@ module _ (ps : List Span) (s : State) where
   unfolding cancelled
   cancelled-same k = same-cond (λ q. withSpans q ps) (eqb (s .selected) k) refl refl
 
+  -- a command that is not carried out
+  answered-same : (o : Outcome) → answers (withSpans s ps) o ≡ respan ps (answers s o)
+  unfolding respan
+  answered-same o = refl
+
   -- nothing is written and the cursor goes elsewhere
   placed-same : (k : Cursor) → becomes (atCursor (withSpans s ps) k) ≡ respan ps (becomes (atCursor s k))
+  unfolding respan
   placed-same k = ap (λ (q : State). becomes q) (at-same k)
 
   module _ (g : Geometry) where
@@ -77,12 +84,12 @@ module _ (ps : List Span) (s : State) where
 
     -- a move of the range
     moved-same : (t : Moved) → moves (withSpans s ps) t ≡ respan ps (moves s t)
-    unfolding cursorIn
+    unfolding cursorIn respan
     moved-same t = ap (λ (q : State). means q Carried (t .strokes)) (at-same _)
 
     -- every command that is carried out
     carried-same : (font : List ℕ) (c : Command) → carriedOut g font (withSpans s ps) c ≡ respan ps (carriedOut g font s c)
-    unfolding carriedOut viewOf cursorIn cursorOf inMode
+    unfolding carriedOut viewOf cursorIn cursorOf inMode respan
     carried-same font (Character b) =
         moved-same (characterOf g font (s .settings .width) (s .settings .style) b (viewOf g s))
     carried-same font Back = placed-same _
@@ -107,15 +114,16 @@ module _ (ps : List Span) (s : State) where
     command-same font c =
         let same = tests-same c in
         rw (same .0, same .1, same .2, carried-same font c)
-        (same-cond (respan ps) (notCarried c) refl
-        (same-cond (respan ps) (ownersOnly c && isHeld (s .hold)) refl
-        (same-cond (respan ps) (outOfDomain g s c) refl
-        (same-cond (respan ps) (notDefined s c) refl (same-cond (respan ps) (cellExceeds g s c) refl refl)))))
+        (same-cond (respan ps) (notCarried c) (answered-same NotCarried)
+        (same-cond (respan ps) (ownersOnly c && isHeld (s .hold)) (answered-same WindowHeld)
+        (same-cond (respan ps) (outOfDomain g s c) (answered-same OutOfDomain)
+        (same-cond (respan ps) (notDefined s c) (answered-same NotDefined)
+        (same-cond (respan ps) (cellExceeds g s c) (answered-same TooLarge) refl)))))
 
 module _ (g : Geometry) (font : List ℕ) (ps : List Span) (s : State) where
   -- whatever is read
   reading-same : (r : Reading) → takeOf g font (withSpans s ps) r ≡ respan ps (takeOf g font s r)
-  unfolding takeOf viewOf imageStrokes
+  unfolding takeOf viewOf imageStrokes respan
   reading-same (More p) = refl
   reading-same (Whole c) = command-same ps (withHalf s Nothing) g font c
   reading-same (Picture column row b next) = refl
@@ -140,7 +148,7 @@ module _ (g : Geometry) (font : List ℕ) where
   -- a byte more: the spans grow by what it writes, and no more can be told
   next-same : (ps : List Span) (f : Feeding) (b : ℕ)
       → next g font (refed ps f) b ≡ refed (markAll ps (byteMeans g font (f .answer .state) b .strokes)) (next g font f b)
-  unfolding next
+  unfolding next respan
   next-same ps f b = ap (λ (t : Meaning). counted g (refed ps f) t) (byte-same g font ps (f .answer .state) b)
 
   -- a run from other spans is the run, and the spans have grown by what it writes
