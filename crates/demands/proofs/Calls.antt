@@ -1,5 +1,5 @@
 -- Demand 1 for each of the five calls. Assumes nothing.
-use mathlib.Core.Path.{_≡_, refl, sym, ap, _∙_}
+use mathlib.Core.Path.{_≡_, refl}
 use mathlib.Core.Logic.{_↔_, _≢_, Iff·rfl}
 use mathlib.Core.Bool.{Bool, true, false, cond, not}
 use mathlib.Core.List.{List, [], _∷_}
@@ -21,7 +21,7 @@ use Rattle.paper.specs.Bounds.{accepted}
 use Rattle.paper.specs.Carry.{isHeld}
 use Rattle.paper.specs.Calls.{isNot, isAccepted, Starting, startRefusal, startCall, Feeding, feedRefusal, fedNothing, feedCall, holdRefusal, holdCall, releaseRefusal, releaseCall, Refreshing, refreshRefusal, refreshCall}
 use Rattle.kept.proofs.Joined.{run-refusal}
-use Rattle.demands.specs.Demands.{StartAnswers, NothingFed, FeedAnswers, HoldAnswers, ReleaseAnswers, RefreshAnswers}
+use Rattle.demands.specs.Demands.{oneOf, StartAnswers, FeedAnswers, HoldAnswers, ReleaseAnswers, RefreshAnswers}
 use Rattle.demands.proofs.Rows.{here, later, otherwise, never, not-yes, not-no, length-wrong, length-right}
 
 -- ---- a call answers by its refusal
@@ -69,6 +69,12 @@ is-refused BrokenState n = refl
 says : {a b : Refusal} {P : Type 0} → a ≡ b → (i : ℕ) → ((refusalNumber b ≡ i) ↔ P) → (refusalNumber a ≡ i) ↔ P
 says e i h = rw e h
 
+-- the numbers that a call may give are those of its rows, by a row and what is tested after it
+listed : (ns : List ℕ) (t : Bool) (r q : Refusal) → oneOf ns (refusalNumber r) ≡ true → oneOf ns (refusalNumber q) ≡ true
+    → oneOf ns (refusalNumber (cond t r q)) ≡ true
+listed ns true r q a b = a
+listed ns false r q a b = b
+
 -- a number other than 0 is not that of a call that is not refused
 last : (i : ℕ) → eqb 0 i ≡ false → refusalNumber Accepted ≢ i
 unfolding refusalNumber
@@ -88,6 +94,7 @@ module _ (g : Geometry) (m : List ℕ) where
       let n = memoryLength g in
       let a = isNot n m in
       record {
+        listed = rw r (listed (0 ∷ 1 ∷ []) a MemoryLength Accepted refl refl);
         number-1 = says r 1 (here refusalNumber 1 a MemoryLength Accepted refl (last 1 refl) (length-wrong n m));
         number-0 = says r 0 (otherwise refusalNumber 0 a MemoryLength Accepted refl refl (length-right n m));
         refused = λ e. rw (is-refused (startRefusal g m) (rw r at e)) (refl, refl);
@@ -105,6 +112,13 @@ module _ (n : ℕ) (m : List ℕ) (k : ℕ) (l : List ℕ) (ok : Bool) (w : Refu
 
   abbrev from-first : Refusal
   from-first = cond (isNot n m) MemoryLength from-second
+
+  lent-listed : (ns : List ℕ) → oneOf ns 0 ≡ true → oneOf ns 1 ≡ true → oneOf ns (refusalNumber w) ≡ true → oneOf ns 8 ≡ true
+      → oneOf ns (refusalNumber from-first) ≡ true
+  unfolding refusalNumber
+  lent-listed ns has-0 has-1 has-w has-8 =
+      listed ns (isNot n m) MemoryLength from-second has-1
+      (listed ns (isNot k l) w from-state has-w (listed ns (not ok) BrokenState Accepted has-8 has-0))
 
   lent-1 : eqb (refusalNumber w) 1 ≡ false → (refusalNumber from-first ≡ 1) ↔ (length m ≢ n)
   unfolding refusalNumber
@@ -154,6 +168,7 @@ module _ (g : Geometry) (font : List ℕ) (s : State) (m bytes : List ℕ) where
       let n = memoryLength g in
       let ok = accepted g s in
       record {
+        listed = rw r (lent-listed n m fontLength font ok FontLength (0 ∷ 1 ∷ 2 ∷ 8 ∷ []) refl refl refl refl);
         number-1 = says r 1 (lent-1 n m fontLength font ok FontLength refl);
         number-2 = says r 2 (lent-w n m fontLength font ok FontLength 2 refl refl refl refl);
         number-8 = says r 8 (lent-8 n m fontLength font ok FontLength refl);
@@ -179,6 +194,7 @@ module _ (g : Geometry) (s : State) (m glass : List ℕ) where
       let k = glassLength g in
       let ok = accepted g s in
       record {
+        listed = rw r (lent-listed n m k glass ok GlassLength (0 ∷ 1 ∷ 3 ∷ 8 ∷ []) refl refl refl refl);
         number-1 = says r 1 (lent-1 n m k glass ok GlassLength refl);
         number-3 = says r 3 (lent-w n m k glass ok GlassLength 3 refl refl refl refl);
         number-8 = says r 8 (lent-8 n m k glass ok GlassLength refl);
@@ -207,7 +223,14 @@ module _ (g : Geometry) (s : State) (k : ℕ) where
       let from-6 : Refusal = cond held HeldAlready from-4 in
       let never-5 : (i : ℕ) → eqb 5 i ≡ false → eqb 0 i ≡ false → refusalNumber from-5 ≢ i =
       λ i a b. never refusalNumber i (not defined) UndefinedWindow Accepted a (last i b) in
+      let ns : List ℕ = 0 ∷ 8 ∷ 6 ∷ 4 ∷ 5 ∷ [] in
       record {
+        listed =
+            rw r
+            (listed ns (not ok) BrokenState from-6 refl
+            (listed ns held HeldAlready from-4 refl
+            (listed ns (not named) NoSuchWindow from-5 refl
+            (listed ns (not defined) UndefinedWindow Accepted refl refl))));
         number-8 =
             says r 8
             (here refusalNumber 8 (not ok) BrokenState from-6 refl
@@ -253,7 +276,10 @@ module _ (g : Geometry) (s : State) where
       let ok = accepted g s in
       let held = isHeld (s .hold) in
       let from-7 : Refusal = cond (not held) NotHeld Accepted in
+      let ns : List ℕ = 0 ∷ 8 ∷ 7 ∷ [] in
       record {
+        listed =
+            rw r (listed ns (not ok) BrokenState from-7 refl (listed ns (not held) NotHeld Accepted refl refl));
         number-8 =
             says r 8
             (here refusalNumber 8 (not ok) BrokenState from-7 refl

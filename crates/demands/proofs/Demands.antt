@@ -1,15 +1,16 @@
 -- THE THREE DEMANDS, for the 112 by 16 module and for every input. What each says stands in specs/Demands, sentence by sentence;
 -- the calls of crates/panel are proved to be the five definitions named here. Assumes nothing.
-use mathlib.Core.Path.{_≡_, refl}
+use mathlib.Core.Path.{_≡_}
 use mathlib.Core.Bool.{true}
 use mathlib.Core.List.{List, [], _∷_, _++_}
-use Prim.Native.Nat.{ℕ}
+use Prim.Native.Nat.{ℕ, _≤_}
 use native.Mathlib.Omega.{arith}
 use lib.ListN.{length}
 use Rattle.paper.specs.declared.Settings.{Settings}
 use Rattle.paper.specs.declared.Half.the-variants.{Nothing}
 use Rattle.paper.specs.declared.State.{State}
 use Rattle.paper.specs.Panel.{panel}
+use Rattle.paper.specs.Numbers.{outcomeNumber}
 use Rattle.paper.specs.Reading.{readOf}
 use Rattle.paper.specs.Settings.{initialState, withHalf}
 use Rattle.paper.specs.Bounds.{accepted}
@@ -22,9 +23,9 @@ use Rattle.kept.proofs.Refusals.{feed-taken}
 use Rattle.stroke_laws.specs.Kept.{Synced}
 use Rattle.stroke_laws.proofs.Glass.{erased-synced}
 use Rattle.demands.specs.Events.{Event, refresh, joined, play}
-use Rattle.demands.specs.Demands.{StartAnswers, FeedAnswers, holdNumber, HoldAnswers, ReleaseAnswers, RefreshAnswers, ByteFed, ByteAnswers, PieceFed, InStep, Served}
+use Rattle.demands.specs.Demands.{StartAnswers, FeedAnswers, holdNumber, HoldAnswers, ReleaseAnswers, RefreshAnswers, ByteFed, ByteAnswers, OnlyAnswered, PieceFed, InStep, Served}
 use Rattle.demands.proofs.Calls.{start-answers, feed-answers, hold-answers, release-answers, refresh-answers}
-use Rattle.demands.proofs.Outcomes.{byte-fed, byte-answers, piece-fed}
+use Rattle.demands.proofs.Outcomes.{byte-answers, byte-fed, byte-answered, piece-fed}
 use Rattle.demands.proofs.Events.{served, feed-in-step, holds-in-step}
 
 -- ==== DEMAND 1: every input gets exactly one answer, given exactly when its row says; a refusal changes nothing
@@ -47,7 +48,7 @@ demand-1-refresh = refresh-answers panel
 -- ==== DEMAND 2: feeding single bytes shows every outcome; a fed piece is the fold
 
 module _ (font : List ℕ) (s : State) where
-  -- the outcome of a byte is given exactly when its row says, and a command that is answered 11 to 17 changes nothing
+  -- the outcome of a byte is given exactly when its row says
   pub demand-2-outcome : (b : ℕ) → ByteAnswers panel (withHalf s Nothing) (readOf panel (s .half) b) (byteMeans panel font s b)
   demand-2-outcome = byte-answers panel font s
 
@@ -56,6 +57,12 @@ module _ (font : List ℕ) (s : State) where
     pub demand-2-byte : (b : ℕ) → ByteFed panel m (byteMeans panel font s b) (feedCall panel font s m (b ∷ []))
     unfolding panel
     demand-2-byte = byte-fed panel font s m (feed-taken panel font s m memory fonts ok)
+
+    -- and one that is answered 11 to 17 changes nothing
+    pub demand-2-answered : (b : ℕ) → 11 ≤ outcomeNumber (feedCall panel font s m (b ∷ []) .answer .outcome)
+        → OnlyAnswered s m (feedCall panel font s m (b ∷ []))
+    unfolding panel
+    demand-2-answered = byte-answered panel font s m (feed-taken panel font s m memory fonts ok)
 
     -- a piece is the fold of its bytes, and what they show one by one
     pub demand-2-piece : (bytes : List ℕ) → PieceFed panel font s m bytes

@@ -1,8 +1,8 @@
 -- Demand 2: the outcome of each byte, exactly when its row says; one byte fed, and a piece as the fold of its bytes.
 -- Assumes nothing.
-use mathlib.Core.Path.{_≡_, refl, sym, ap, subst, _∙_}
-use mathlib.Core.Logic.{_↔_, _≢_, _⊎_, inl, inr, ⊎-elim, Iff·rfl}
-use mathlib.Core.Bool.{Bool, true, false, cond, _&&_, true≢false, false≢true}
+use mathlib.Core.Path.{_≡_, refl, sym, ap, ap₂, subst, _∙_}
+use mathlib.Core.Logic.{_↔_, _≢_, inl, inr, ⊎-elim, Iff·rfl}
+use mathlib.Core.Bool.{true, false, cond, _&&_, true≢false, false≢true}
 use mathlib.Core.List.{List, [], _∷_}
 use Prim.Native.Nat.{ℕ, _≤_}
 use native.Mathlib.Nat.{zero-add}
@@ -17,12 +17,14 @@ use Rattle.paper.specs.declared.Command.the-variants.{Character, Back, Tab, Lin
 use Rattle.paper.specs.declared.Reading.{Reading}
 use Rattle.paper.specs.declared.Reading.the-variants.{More, Whole, Picture, PictureEnd, Cancels, UnknownCode}
 use Rattle.paper.specs.declared.Refusal.the-variants.{Accepted}
-use Rattle.paper.specs.declared.Outcome.the-variants.{OutOfDomain, NotCarried, WindowHeld, TooLarge, NotDefined}
+use Rattle.paper.specs.declared.Outcome.{Outcome}
+use Rattle.paper.specs.declared.Outcome.the-variants.{Unfinished, Carried, OutOfDomain, Cancelled, Unknown, NotCarried, WindowHeld, TooLarge, NotDefined}
 use Rattle.paper.specs.declared.State.{State}
 use Rattle.paper.specs.Panel.{memoryLength, fontLength}
+use Rattle.paper.specs.Strokes.{Stroke, applyAll, markAll}
 use Rattle.paper.specs.Numbers.{refusalNumber, outcomeNumber, carriedBy, answeredBy}
 use Rattle.paper.specs.Reading.{readOf}
-use Rattle.paper.specs.Settings.{withHalf}
+use Rattle.paper.specs.Settings.{withHalf, withSpans}
 use Rattle.paper.specs.Bounds.{accepted}
 use Rattle.paper.specs.Carry.{Meaning, notCarried, isHeld, ownersOnly, outOfDomain, notDefined, cellExceeds, carriedOut, answers, commandOf, takeOf, byteMeans}
 use Rattle.paper.specs.Calls.{Feeding, feedRefusal, next, run, fedNothing, feedCall}
@@ -32,12 +34,37 @@ use Rattle.kept.proofs.Accepted.{run-accepted}
 use Rattle.kept.proofs.Refusals.{feed-taken}
 use Rattle.kept.proofs.Outside.{length-run}
 use Rattle.kept.proofs.Joined.{feed-runs, run-refusal}
-use Rattle.demands.specs.Demands.{finishes, endsImage, IsCommand, After14, After15, After11, After17, ByteAnswers, ByteFed, fedOnce, fedSingly, PieceFed}
+use Rattle.demands.specs.Demands.{finishes, endsImage, IsCommand, After14, After15, After11, After17, ByteAnswers, ByteFed, OnlyAnswered, fedOnce, fedSingly, PieceFed}
 use Rattle.demands.proofs.Rows.{never, here, later, otherwise}
 
 -- the number of what a byte comes to
 abbrev number : Meaning → ℕ
 number t = outcomeNumber (t .outcome)
+
+number-range : (o : Outcome) → (9 ≤ outcomeNumber o) × (outcomeNumber o ≤ 17)
+unfolding outcomeNumber
+number-range Unfinished = omega arith
+number-range Carried = omega arith
+number-range OutOfDomain = omega arith
+number-range Cancelled = omega arith
+number-range Unknown = omega arith
+number-range NotCarried = omega arith
+number-range WindowHeld = omega arith
+number-range TooLarge = omega arith
+number-range NotDefined = omega arith
+
+-- what 11 to 17 count as
+counts-as : (o : Outcome) → 11 ≤ outcomeNumber o → (carriedBy o ≡ 0) × (answeredBy o ≡ 1)
+unfolding outcomeNumber carriedBy answeredBy
+counts-as Unfinished l = absurd (omega arith)
+counts-as Carried l = absurd (omega arith)
+counts-as OutOfDomain l = (refl, refl)
+counts-as Cancelled l = (refl, refl)
+counts-as Unknown l = (refl, refl)
+counts-as NotCarried l = (refl, refl)
+counts-as WindowHeld l = (refl, refl)
+counts-as TooLarge l = (refl, refl)
+counts-as NotDefined l = (refl, refl)
 
 -- ---- a command read whole
 
@@ -214,6 +241,7 @@ module _ (g : Geometry) (s : State) (r : Reading) (t : Meaning) (other : kind r 
       → ByteAnswers g s r t
   plain-answers n nine ten twelve thirteen same =
       record {
+        listed = number-range (t .outcome);
         number-9 = nine;
         number-10 = (λ e. inl (ten .0 e), ⊎-elim (ten .1) (λ x. absurd (other (ap kind (x .1)))));
         number-11 = not-command (n .0);
@@ -244,6 +272,7 @@ reading-answers g font s (Whole c) =
     let a = command-answers g font s₀ c in
     let ten = a-command c (λ q. After17 g s₀ q (cellExceeds g s₀ q ≡ false)) (a .number-10) in
     record {
+      listed = number-range (commandOf g font s₀ c .outcome);
       number-9 = neither (a .no-9) true≢false;
       number-10 = (λ e. inr (ten .0 e), ⊎-elim (λ e. absurd (false≢true e)) (ten .1));
       number-11 = a-command c (λ q. After15 s₀ q (outOfDomain g s₀ q ≡ true)) (a .number-11);
@@ -296,6 +325,22 @@ module _ (g : Geometry) (font : List ℕ) where
           carried = zero-add (carriedBy (byteMeans g font s b .outcome));
           answered = zero-add (answeredBy (byteMeans g font s b .outcome));
         })
+
+    -- one that is answered 11 to 17
+    pub byte-answered : (b : ℕ) → 11 ≤ outcomeNumber (feedCall g font s m (b ∷ []) .answer .outcome)
+        → OnlyAnswered s m (feedCall g font s m (b ∷ []))
+    byte-answered b l =
+        let f = byte-fed b in
+        let t = byteMeans g font s b in
+        let high = subst (λ (o : Outcome). 11 ≤ outcomeNumber o) (f .outcome) l in
+        let same = byte-answers s b .unchanged high in
+        let counts = counts-as (t .outcome) high in
+        record {
+          mem = f .mem ∙ ap (λ (ss : List Stroke). applyAll g m ss) (same .1);
+          state = f .state ∙ ap₂ (λ (q : State) (ss : List Stroke). withSpans q (markAll (q .spans) ss)) (same .0) (same .1);
+          carried = f .carried ∙ counts .0;
+          answered = f .answered ∙ counts .1;
+        }
 
   -- one byte more, fed by itself
   once : (f : Feeding) (b : ℕ) → f .answer .refusal ≡ Accepted → feedRefusal g font (f .answer .state) (f .mem) ≡ Accepted

@@ -1,13 +1,12 @@
 -- No rule looks at the spans: from a state with other spans every byte means the same, and a run writes the same. So a refresh
 -- between two pieces shows in nothing but the spans. Assumes nothing.
-use mathlib.Core.Path.{_≡_, refl, sym, ap, ap₂, _∙_}
+use mathlib.Core.Path.{_≡_, refl, sym, ap, _∙_}
 use mathlib.Core.Bool.{Bool, true, false, cond, _&&_}
-use mathlib.Core.List.{List, [], _∷_, _++_}
+use mathlib.Core.List.{List, [], _∷_}
 use Prim.Native.Nat.{ℕ}
 use lib.Dec.{eqb}
 use Rattle.paper.specs.declared.Geometry.{Geometry}
 use Rattle.paper.specs.declared.Cursor.{Cursor}
-use Rattle.paper.specs.declared.View.{View}
 use Rattle.paper.specs.declared.Span.{Span}
 use Rattle.paper.specs.declared.Half.the-variants.{Nothing}
 use Rattle.paper.specs.declared.Command.{Command}
@@ -19,7 +18,7 @@ use Rattle.paper.specs.declared.Outcome.the-variants.{Carried, OutOfDomain, Not
 use Rattle.paper.specs.declared.State.{State}
 use Rattle.paper.specs.Strokes.{applyAll, markAll}
 use Rattle.paper.specs.Reading.{readOf}
-use Rattle.paper.specs.Settings.{withHalf, withSelected, withSpans, noWindow, defined, cancelled, cursorOf, atCursor, inMode, insideWindow, viewOf, cursorIn, withView}
+use Rattle.paper.specs.Settings.{withHalf, withSpans, cancelled, cursorOf, atCursor, inMode, insideWindow, viewOf, cursorIn}
 use Rattle.paper.specs.Moves.{Moved, htOf, characterOf, lineFeedOf, clearOf}
 use Rattle.paper.specs.Carry.{Meaning, means, moves, becomes, isHeld, notCarried, ownersOnly, outOfDomain, notDefined, cellExceeds, widthNow, heightNow, carriedOut, answers, commandOf, imageStrokes, takeOf, byteMeans}
 use Rattle.paper.specs.Calls.{Feeding, feeding, settled, counted, next, run}

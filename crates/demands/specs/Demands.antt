@@ -1,9 +1,10 @@
 -- The three demands on the five calls, sentence by sentence. proofs/Demands shows each of them. Assumes nothing.
 use mathlib.Core.Path.{_≡_}
 use mathlib.Core.Logic.{_↔_, _≢_, _⊎_}
-use mathlib.Core.Bool.{Bool, true, false, _&&_}
-use mathlib.Core.List.{List, [], _∷_, _++_}
+use mathlib.Core.Bool.{Bool, true, false, _&&_, _||_}
+use mathlib.Core.List.{List, [], _∷_}
 use Prim.Native.Nat.{ℕ, _+_, _<_, _≤_}
+use lib.Dec.{eqb}
 use lib.ListN.{length, getD, replicate}
 use Rattle.paper.specs.declared.Geometry.{Geometry}
 use Rattle.paper.specs.declared.Settings.{Settings}
@@ -16,18 +17,23 @@ use Rattle.paper.specs.declared.State.{State}
 use Rattle.paper.specs.Panel.{memoryLength, glassLength, fontLength, columnOf, rowOf}
 use Rattle.paper.specs.Strokes.{noSpan, spanHolds, applyAll, refreshed, shownAll}
 use Rattle.paper.specs.Numbers.{refusalNumber, outcomeNumber, carriedBy, answeredBy}
-use Rattle.paper.specs.Reading.{between, readOf}
+use Rattle.paper.specs.Reading.{between}
 use Rattle.paper.specs.Settings.{initialState, withHalf, withSpans, windowAt, isDefined}
 use Rattle.paper.specs.Bounds.{accepted}
 use Rattle.paper.specs.Cells.{eraseStroke}
 use Rattle.paper.specs.Carry.{notCarried, isHeld, ownersOnly, outOfDomain, notDefined, cellExceeds, Meaning}
 use Rattle.paper.specs.Calls.{Feeding, feeding, settled, run, fedNothing, started, startCall, feedCall, heldBy, holdCall, released, releaseCall, emptied, refreshCall}
 use Rattle.kept.specs.Guest.{Holding, Guest, OnlyInside}
-use Rattle.demands.specs.Events.{Event, refresh, joined, Play, play, noSpans, spansSince, owed, visible}
+use Rattle.demands.specs.Events.{Event, Play, noSpans, spansSince, owed, visible}
 
 -- ==== DEMAND 1. "Any bytes, buffers and state record may be handed in. Each call answers or refuses by document 01's numbers,
 -- in its order. A refused call changes no lent byte and hands the state back unchanged."
 -- Every number is given exactly when its row holds and none that is tested before it does; 0 is a call that is not refused.
+
+-- n is one of these numbers
+abbrev pub oneOf : List ℕ → ℕ → Bool
+oneOf [] n = false
+oneOf (i ∷ is) n = eqb n i || oneOf is n
 
 -- ---- "Start: 1."
 
@@ -35,6 +41,7 @@ abbrev pub startNumber : Geometry → List ℕ → ℕ
 startNumber g m = refusalNumber (startCall g m .answer .refusal)
 
 pub record StartAnswers (g : Geometry) (m : List ℕ) : Type 0 where
+  pub listed : oneOf (0 ∷ 1 ∷ []) (startNumber g m) ≡ true
   -- 1: "memory is not 1,024 bytes"
   pub number-1 : (startNumber g m ≡ 1) ↔ (length m ≢ memoryLength g)
   pub number-0 : (startNumber g m ≡ 0) ↔ (length m ≡ memoryLength g)
@@ -58,6 +65,7 @@ pub record NothingFed (s : State) (m : List ℕ) (f : Feeding) : Type 0 where
   pub outcome : outcomeNumber (f .answer .outcome) ≡ 9
 
 pub record FeedAnswers (g : Geometry) (font : List ℕ) (s : State) (m bytes : List ℕ) : Type 0 where
+  pub listed : oneOf (0 ∷ 1 ∷ 2 ∷ 8 ∷ []) (feedNumber g font s m bytes) ≡ true
   -- 1: "memory is not 1,024 bytes"
   pub number-1 : (feedNumber g font s m bytes ≡ 1) ↔ (length m ≢ memoryLength g)
   -- 2: "font is not 1,120 bytes"
@@ -75,6 +83,7 @@ abbrev pub holdNumber : Geometry → State → ℕ → ℕ
 holdNumber g s k = refusalNumber (holdCall g s k .refusal)
 
 pub record HoldAnswers (g : Geometry) (s : State) (k : ℕ) : Type 0 where
+  pub listed : oneOf (0 ∷ 8 ∷ 6 ∷ 4 ∷ 5 ∷ []) (holdNumber g s k) ≡ true
   -- 8: "state record breaks a bound of this paper"
   pub number-8 : (holdNumber g s k ≡ 8) ↔ (accepted g s ≡ false)
   -- 6: "hold while held"
@@ -99,6 +108,7 @@ abbrev pub releaseNumber : Geometry → State → ℕ
 releaseNumber g s = refusalNumber (releaseCall g s .refusal)
 
 pub record ReleaseAnswers (g : Geometry) (s : State) : Type 0 where
+  pub listed : oneOf (0 ∷ 8 ∷ 7 ∷ []) (releaseNumber g s) ≡ true
   -- 8: "state record breaks a bound of this paper"
   pub number-8 : (releaseNumber g s ≡ 8) ↔ (accepted g s ≡ false)
   -- 7: "release while not held"
@@ -114,6 +124,7 @@ abbrev pub refreshNumber : Geometry → State → List ℕ → List ℕ → ℕ
 refreshNumber g s m glass = refusalNumber (refreshCall g s m glass .answer .refusal)
 
 pub record RefreshAnswers (g : Geometry) (s : State) (m glass : List ℕ) : Type 0 where
+  pub listed : oneOf (0 ∷ 1 ∷ 3 ∷ 8 ∷ []) (refreshNumber g s m glass) ≡ true
   -- 1: "memory is not 1,024 bytes"
   pub number-1 : (refreshNumber g s m glass ≡ 1) ↔ (length m ≢ memoryLength g)
   -- 3: "glass is not 224 bytes"
@@ -186,6 +197,7 @@ After17 g s c P = After11 g s c ((notDefined s c ≡ false) × P)
 
 -- s is the state with nothing half read, r what the byte was read as, t what it comes to
 pub record ByteAnswers (g : Geometry) (s : State) (r : Reading) (t : Meaning) : Type 0 where
+  pub listed : (9 ≤ outcomeNumber (t .outcome)) × (outcomeNumber (t .outcome) ≤ 17)
   -- 9: "when that byte finished nothing"
   pub number-9 : (outcomeNumber (t .outcome) ≡ 9) ↔ (finishes r ≡ false)
   -- 10: "when it finished a command that was carried out"
@@ -208,6 +220,13 @@ pub record ByteAnswers (g : Geometry) (s : State) (r : Reading) (t : Meaning) : 
   pub number-17 : (outcomeNumber (t .outcome) ≡ 17) ↔ IsCommand r (λ c. After11 g s c (notDefined s c ≡ true))
   -- "no dot, cursor, window or setting changes by a command so answered": nothing is half read, and that is all
   pub unchanged : 11 ≤ outcomeNumber (t .outcome) → (t .state ≡ s) × (t .strokes ≡ [])
+
+-- the same of the byte as it is fed: nothing changes, and one command more is answered
+pub record OnlyAnswered (s : State) (m : List ℕ) (f : Feeding) : Type 0 where
+  pub mem : f .mem ≡ m
+  pub state : f .answer .state ≡ withHalf s Nothing
+  pub carried : f .answer .carried ≡ 0
+  pub answered : f .answer .answered ≡ 1
 
 -- ---- a piece
 
