@@ -25,7 +25,8 @@ use Rattle.stroke_laws.proofs.Glass.{erased-synced}
 use Rattle.demands.specs.Events.{Event, refresh, joined, play}
 use Rattle.demands.specs.Demands.{StartAnswers, FeedAnswers, holdNumber, HoldAnswers, ReleaseAnswers, RefreshAnswers, ByteFed, ByteAnswers, OnlyAnswered, PieceFed, InStep, Served}
 use Rattle.demands.proofs.Calls.{start-answers, feed-answers, hold-answers, release-answers, refresh-answers}
-use Rattle.demands.proofs.Outcomes.{byte-answers, byte-fed, byte-answered, piece-fed}
+use Rattle.demands.proofs.Outcomes.{byte-answers}
+use Rattle.demands.proofs.Feeds.{byte-fed, byte-answered, piece-fed}
 use Rattle.demands.proofs.Events.{served, feed-in-step, holds-in-step}
 
 -- ==== DEMAND 1: every input gets exactly one answer, given exactly when its row says; a refusal changes nothing
