@@ -1,0 +1,100 @@
+-- THE THREE DEMANDS, for the 112 by 16 module and for every input. What each says stands in specs/Demands, sentence by sentence;
+-- the calls of crates/panel are proved to be the five definitions named here. Assumes nothing.
+use mathlib.Core.Path.{_≡_}
+use mathlib.Core.Bool.{true}
+use mathlib.Core.List.{List, [], _∷_, _++_}
+use Prim.Native.Nat.{ℕ, _≤_}
+use native.Mathlib.Omega.{arith}
+use lib.ListN.{length}
+use Rattle.paper.specs.declared.Settings.{Settings}
+use Rattle.paper.specs.declared.Half.the-variants.{Nothing}
+use Rattle.paper.specs.declared.State.{State}
+use Rattle.paper.specs.Panel.{panel}
+use Rattle.paper.specs.Numbers.{outcomeNumber}
+use Rattle.paper.specs.Reading.{readOf}
+use Rattle.paper.specs.Settings.{initialState, withHalf}
+use Rattle.paper.specs.Bounds.{accepted}
+use Rattle.paper.specs.Carry.{byteMeans}
+use Rattle.paper.specs.Calls.{started, feedCall, holdCall, refreshCall}
+use Rattle.kept.specs.Sized.{Sized}
+use Rattle.kept.proofs.Views.{panel-usable}
+use Rattle.kept.proofs.Sized.{initial-sized}
+use Rattle.kept.proofs.Refusals.{feed-taken}
+use Rattle.stroke_laws.specs.Kept.{Synced}
+use Rattle.stroke_laws.proofs.Glass.{erased-synced}
+use Rattle.demands.specs.Events.{Event, refresh, joined, play}
+use Rattle.demands.specs.Demands.{StartAnswers, FeedAnswers, holdNumber, HoldAnswers, ReleaseAnswers, RefreshAnswers, ByteFed, ByteAnswers, OnlyAnswered, PieceFed, InStep, Served}
+use Rattle.demands.proofs.Calls.{start-answers, feed-answers, hold-answers, release-answers, refresh-answers}
+use Rattle.demands.proofs.Outcomes.{byte-answers}
+use Rattle.demands.proofs.Feeds.{byte-fed, byte-answered, piece-fed}
+use Rattle.demands.proofs.Events.{served, feed-in-step, holds-in-step}
+
+-- ==== DEMAND 1: every input gets exactly one answer, given exactly when its row says; a refusal changes nothing
+
+pub demand-1-start : (m : List ℕ) → StartAnswers panel m
+demand-1-start = start-answers panel
+
+pub demand-1-feed : (font : List ℕ) (s : State) (m bytes : List ℕ) → FeedAnswers panel font s m bytes
+demand-1-feed = feed-answers panel
+
+pub demand-1-hold : (s : State) (k : ℕ) → HoldAnswers panel s k
+demand-1-hold = hold-answers panel
+
+pub demand-1-release : (s : State) → ReleaseAnswers panel s
+demand-1-release = release-answers panel
+
+pub demand-1-refresh : (s : State) (m glass : List ℕ) → RefreshAnswers panel s m glass
+demand-1-refresh = refresh-answers panel
+
+-- ==== DEMAND 2: feeding single bytes shows every outcome; a fed piece is the fold
+
+module _ (font : List ℕ) (s : State) where
+  -- the outcome of a byte is given exactly when its row says
+  pub demand-2-outcome : (b : ℕ) → ByteAnswers panel (withHalf s Nothing) (readOf panel (s .half) b) (byteMeans panel font s b)
+  demand-2-outcome = byte-answers panel font s
+
+  module _ (m : List ℕ) (memory : length m ≡ 1024) (fonts : length font ≡ 1120) (ok : accepted panel s ≡ true) where
+    -- a byte fed by itself shows all that document 01 has it come to
+    pub demand-2-byte : (b : ℕ) → ByteFed panel m (byteMeans panel font s b) (feedCall panel font s m (b ∷ []))
+    unfolding panel
+    demand-2-byte = byte-fed panel font s m (feed-taken panel font s m memory fonts ok)
+
+    -- and one that is answered 11 to 17 changes nothing
+    pub demand-2-answered : (b : ℕ) → 11 ≤ outcomeNumber (feedCall panel font s m (b ∷ []) .answer .outcome)
+        → OnlyAnswered s m (feedCall panel font s m (b ∷ []))
+    unfolding panel
+    demand-2-answered = byte-answered panel font s m (feed-taken panel font s m memory fonts ok)
+
+    -- a piece is the fold of its bytes, and what they show one by one
+    pub demand-2-piece : (bytes : List ℕ) → PieceFed panel font s m bytes
+    unfolding panel
+    demand-2-piece bytes = piece-fed panel font panel-usable s m bytes memory fonts ok
+
+-- ==== DEMAND 3: pieces cut anywhere and refreshes anywhere, in a window that is held
+
+pub demand-3 : (font : List ℕ) (k back : ℕ) (v : Settings) (s : State) (m glass : List ℕ) → InStep panel font k back v s m glass
+    → (events : List Event)
+    → Served panel font k back v s m events (play panel font s m glass events) (feedCall panel font s m (joined events))
+    (play panel font s m glass (events ++ refresh ∷ []))
+demand-3 = served panel panel-usable
+
+-- ---- and it can be begun: from the start on the glass shows memory wherever no span is, and then a hold and a refresh
+
+-- any glass does after a start
+pub demand-3-start : (m glass : List ℕ) → Synced panel m glass (started panel .spans)
+demand-3-start m glass =
+    let u = panel-usable in
+    erased-synced panel m glass (initialState panel .spans) (initial-sized panel .spans) (omega arith)
+
+-- and still does after a feed
+pub demand-3-feed : (font : List ℕ) (s : State) (m glass bytes : List ℕ) → Sized panel s → Synced panel m glass (s .spans)
+    → let f = feedCall panel font s m bytes in Synced panel (f .mem) glass (f .answer .state .spans)
+demand-3-feed = feed-in-step panel panel-usable
+
+-- a hold that is not refused, and then a refresh
+pub demand-3-hold : (font : List ℕ) (s : State) (k : ℕ) (m glass : List ℕ) → length font ≡ 1120 → length m ≡ 1024
+    → length glass ≡ 224 → Synced panel m glass (s .spans) → holdNumber panel s k ≡ 0
+    → let r = refreshCall panel (holdCall panel s k .state) m glass in
+    InStep panel font k (s .selected) (s .settings) (r .answer .state) m (r .glass)
+unfolding panel
+demand-3-hold = holds-in-step panel panel-usable

@@ -1,0 +1,316 @@
+-- Demand 3, by induction over the events: what pieces and refreshes in any order come to. Assumes nothing.
+use mathlib.Core.Path.{_≡_, refl, sym, ap, subst, subst₂, _∙_}
+use mathlib.Core.Bool.{true}
+use mathlib.Core.List.{List, [], _∷_, _++_}
+use Prim.Native.Nat.{ℕ, zero, suc, _+_, _≤_}
+use native.Mathlib.Nat.{mul-le-mul-left}
+use native.Mathlib.Omega.{arith}
+use lib.ListN.{length, getD, replicate, length-replicate}
+use lib.Seq.{length-take-le, getD-take}
+use borrow.Author.Tests.{eq-eqb}
+use Rattle.paper.specs.declared.Geometry.{Geometry}
+use Rattle.paper.specs.declared.Settings.{Settings}
+use Rattle.paper.specs.declared.Span.{Span}
+use Rattle.paper.specs.declared.Refusal.{Refusal}
+use Rattle.paper.specs.declared.Refusal.the-variants.{Accepted}
+use Rattle.paper.specs.declared.State.{State}
+use Rattle.paper.specs.Panel.{memoryLength, glassLength, fontLength}
+use Rattle.paper.specs.Strokes.{Stroke, noSpan, applyAll, markAll, refreshed, shownAll}
+use Rattle.paper.specs.Settings.{withSpans}
+use Rattle.paper.specs.Bounds.{accepted}
+use Rattle.paper.specs.Calls.{isAccepted, Feeding, feeding, run, feedRefusal, fedNothing, feedCall, Refreshing, refreshing, refreshRefusal, emptied, refreshCall, heldBy, holdCall}
+use Rattle.kept.specs.Room.{Usable}
+use Rattle.kept.specs.Sized.{Sized}
+use Rattle.kept.specs.Guest.{Guest, OnlyInside}
+use Rattle.kept.specs.Joined.{Joined}
+use Rattle.kept.proofs.Tests.{by-cond}
+use Rattle.kept.proofs.Accepted.{run-accepted}
+use Rattle.kept.proofs.Calls.{held-accepted, emptied-accepted, feed-keeps}
+use Rattle.kept.proofs.Refusals.{feed-given, feed-taken}
+use Rattle.kept.proofs.Joined.{feed-runs, run-refusal}
+use Rattle.kept.proofs.Pieces.{pieces-joined}
+use Rattle.kept.proofs.Held.{feed-guest, feed-outside}
+use Rattle.dots.proofs.Spans.{marks-append, marks-length}
+use Rattle.dots.proofs.Strokes.{apply-length}
+use Rattle.dots.proofs.Glass.{covered, covered-test, refreshed-length, refreshed-out, shown-most}
+use Rattle.dots.proofs.Tests.{not-both}
+use Rattle.stroke_laws.specs.Kept.{Synced}
+use Rattle.stroke_laws.proofs.Glass.{strokes-synced, refreshed-shows, refreshed-synced}
+use Rattle.demands.specs.Events.{Event, piece, refresh, joined, Play, play, onwards, strokesOf, noSpans, spansSince, owed, visible}
+use Rattle.demands.specs.Demands.{holdNumber, InStep, Served}
+use Rattle.demands.proofs.Calls.{hold-answers}
+use Rattle.demands.proofs.Unseen.{run-same, run-state, run-mem, run-spans}
+
+-- ---- refreshes
+
+module _ (g : Geometry) where
+  -- a refresh that is not refused
+  refresh-runs : (s : State) (m glass : List ℕ) → length m ≡ memoryLength g → length glass ≡ glassLength g → accepted g s ≡ true
+      → refreshCall g s m glass ≡ refreshing Accepted (emptied g s) (shownAll g (s .spans)) (refreshed g m (s .spans) glass)
+  unfolding refreshCall refreshRefusal isAccepted
+  refresh-runs s m glass l z k = rw (eq-eqb (length m) (memoryLength g) l, eq-eqb (length glass) (glassLength g) z, k)
+
+  -- as many spans as rows
+  span-count : (since : List Stroke) → length (markAll (noSpans g) since) ≡ g .rows
+  span-count since = marks-length (noSpans g) since ∙ length-replicate (g .rows) noSpan
+
+  module _ (font : List ℕ) where
+    -- one more refresh
+    last-refresh : (events : List Event) (s : State) (m glass : List ℕ)
+        → let p = play g font s m glass events in
+        play g font s m glass (events ++ refresh ∷ []) .glass ≡ refreshCall g (p .state) (p .mem) (p .glass) .glass
+    last-refresh [] s m glass = refl
+    last-refresh (piece bs ∷ es) s m glass =
+        let f = feedCall g font s m bs in last-refresh es (f .answer .state) (f .mem) glass
+    last-refresh (refresh ∷ es) s m glass =
+        let r = refreshCall g s m glass in last-refresh es (r .answer .state) m (r .glass)
+
+    -- no refresh owes more than the glass has
+    owed-most : (events : List Event) (q : State) (since : List Stroke) (i : ℕ)
+        → getD (owed g font q since events) i 0 ≤ glassLength g
+    owed-most [] q since i = omega arith
+    owed-most (piece bs ∷ es) q since i = owed-most es (onwards g font q bs) (since ++ strokesOf g font q bs) i
+    owed-most (refresh ∷ es) q since zero = rw (span-count since) at (shown-most g (markAll (noSpans g) since))
+    owed-most (refresh ∷ es) q since (suc i) = owed-most es q [] i
+
+-- the glass is no larger than the memory
+glass-fits : (g : Geometry) → Usable g → (m : List ℕ) → length m ≡ memoryLength g → glassLength g ≤ length m
+glass-fits g u m l = omega (arith, l, mul-le-mul-left (g .rows) (u .visible-part))
+
+-- a glass that equals the visible memory is in step with it, whatever the spans
+shows-synced : (g : Geometry) (m glass : List ℕ) (ps : List Span) → glass ≡ visible g m → Synced g m glass ps
+shows-synced g m glass ps e a l out = ap (λ (n : List ℕ). getD n a 0) e ∙ getD-take (glassLength g) m a 0 l
+
+-- the spans are nothing of a guest's
+guest-spans : (k back : ℕ) (v : Settings) (s r : State) (ps : List Span) → Guest k back v s r → Guest k back v s (withSpans r ps)
+guest-spans k back v s r ps a =
+    record {
+      hold = a .hold;
+      selected = a .selected;
+      base = a .base;
+      others = a .others;
+      left = a .left;
+      top = a .top;
+      width = a .width;
+      height = a .height;
+      x = a .x;
+      y = a .y;
+    }
+
+-- ---- the induction
+
+-- the state as the calls have it: the joined bytes' state, but its spans hold only what was written since the last refresh
+abbrev called : Geometry → State → List Stroke → State
+called g q since = withSpans q (markAll (noSpans g) since)
+
+-- what stands after the events: p as the calls have it, one as the joined bytes have it from state q, `since` being what was
+-- written between the last refresh and the first event
+record Serves (g : Geometry) (font : List ℕ) (q : State) (since : List Stroke) (events : List Event) (p : Play) (one : Feeding)
+    : Type 0 where
+  refusals : p .refusals ≡ replicate (length events) Accepted
+  mem : p .mem ≡ one .mem
+  carried : p .carried ≡ one .answer .carried
+  answered : p .answered ≡ one .answer .answered
+  state : p .state ≡ withSpans (one .answer .state) (spansSince g font q since events)
+  moved : p .moved ≡ owed g font q since events
+  synced : Synced g (p .mem) (p .glass) (spansSince g font q since events)
+  memory : length (p .mem) ≡ memoryLength g
+  size : length (p .glass) ≡ glassLength g
+  accepts : accepted g (p .state) ≡ true
+
+module _ (g : Geometry) (u : Usable g) (font : List ℕ) (fonts : length font ≡ fontLength) where
+  module _ (q : State) (m bs : List ℕ) (l : length m ≡ memoryLength g) (h : accepted g q ≡ true) where
+    -- a piece of the joined bytes
+    fed-runs : feedCall g font q m bs ≡ run g font (fedNothing Accepted q m) bs
+    fed-runs = feed-runs g font q m bs (feed-taken g font q m l fonts h)
+
+    -- and of what comes after it
+    fed-joined : (rest : List ℕ)
+        → Joined rest (feedCall g font q m bs)
+        (feedCall g font (onwards g font q bs) (applyAll g m (strokesOf g font q bs)) rest) (feedCall g font q m (bs ++ rest))
+    fed-joined rest =
+        let start = fedNothing Accepted q m in
+        subst₂
+        (λ (t : State) (n : List ℕ).
+        Joined rest (feedCall g font q m bs) (feedCall g font t n rest) (feedCall g font q m (bs ++ rest)))
+        (ap (λ (f : Feeding). f .answer .state) fed-runs ∙ run-state g font start bs)
+        (ap (λ (f : Feeding). f .mem) fed-runs ∙ run-mem g font start bs)
+        (pieces-joined g u font q m bs rest)
+
+    -- the same piece fed to the state as the calls have it
+    fed-called : (since : List Stroke) → accepted g (called g q since) ≡ true
+        → let f = feedCall g font q m bs in
+        feedCall g font (called g q since) m bs
+        ≡ feeding Accepted (called g (onwards g font q bs) (since ++ strokesOf g font q bs)) (f .answer .carried)
+        (f .answer .answered) (f .answer .outcome) (applyAll g m (strokesOf g font q bs))
+    fed-called since k =
+        let r = called g q since in
+        let start = fedNothing Accepted q m in
+        let grown = marks-append (noSpans g) since (strokesOf g font q bs) in
+        feed-runs g font r m bs (feed-taken g font r m l fonts k)
+        ∙ run-same g font (markAll (noSpans g) since) start bs
+        ∙ (λ i. let f = sym fed-runs i in
+        feeding (run-refusal g font start bs i) (withSpans (run-state g font start bs i) (sym grown i)) (f .answer .carried)
+        (f .answer .answered) (f .answer .outcome) (run-mem g font start bs i))
+
+  -- THE INDUCTION: the calls keep up with the joined bytes
+  serves : (events : List Event) (q : State) (since : List Stroke) (m glass : List ℕ) → length m ≡ memoryLength g
+      → length glass ≡ glassLength g → accepted g q ≡ true → accepted g (called g q since) ≡ true
+      → Synced g m glass (markAll (noSpans g) since)
+      → Serves g font q since events (play g font (called g q since) m glass events) (feedCall g font q m (joined events))
+  unfolding emptied
+  serves [] q since m glass l z h k synced =
+      rw (fed-runs q m [] l h)
+      (record {
+        refusals = refl;
+        mem = refl;
+        carried = refl;
+        answered = refl;
+        state = refl;
+        moved = refl;
+        synced = synced;
+        memory = l;
+        size = z;
+        accepts = k;
+      })
+  serves (piece bs ∷ es) q since m glass l z h k synced =
+      let ss = strokesOf g font q bs in
+      let q₁ = onwards g font q bs in
+      let m₁ = applyAll g m ss in
+      let ps = markAll (noSpans g) since in
+      let start = fedNothing Accepted q m in
+      let f = feedCall g font q m bs in
+      let both = fed-joined q m bs l h (joined es) in
+      let fed = fed-called q m bs l h since k in
+      let h₁ = subst (λ (t : State). accepted g t ≡ true) (run-state g font start bs) (run-accepted g u font start bs h) in
+      let k₁ =
+      subst (λ (t : Feeding). accepted g (t .answer .state) ≡ true) fed (feed-keeps g u font (called g q since) m bs k) in
+      let grown = strokes-synced g m glass ps ss (span-count g since) (glass-fits g u m l) synced in
+      let rest =
+      serves es q₁ (since ++ ss) m₁ glass (apply-length g m ss ∙ l) z h₁ k₁
+      (subst (Synced g m₁ glass) (sym (marks-append (noSpans g) since ss)) grown) in
+      rw fed
+      (record {
+        refusals = ap (λ (rs : List Refusal). Accepted ∷ rs) (rest .refusals);
+        mem = rest .mem ∙ sym (both .mem);
+        carried = ap (λ (n : ℕ). f .answer .carried + n) (rest .carried) ∙ sym (both .carried);
+        answered = ap (λ (n : ℕ). f .answer .answered + n) (rest .answered) ∙ sym (both .answered);
+        state = rest .state ∙ ap (λ (t : State). withSpans t (spansSince g font q₁ (since ++ ss) es)) (sym (both .state));
+        moved = rest .moved;
+        synced = rest .synced;
+        memory = rest .memory;
+        size = rest .size;
+        accepts = rest .accepts;
+      })
+  serves (refresh ∷ es) q since m glass l z h k synced =
+      let ps = markAll (noSpans g) since in
+      let rest =
+      serves es q [] m (refreshed g m ps glass) l (refreshed-length g m ps glass ∙ z) h
+      (emptied-accepted g (called g q since) k) (refreshed-synced g m glass ps z synced (noSpans g)) in
+      rw (refresh-runs g (called g q since) m glass l z k)
+      (record {
+        refusals = ap (λ (rs : List Refusal). Accepted ∷ rs) (rest .refusals);
+        mem = rest .mem;
+        carried = rest .carried;
+        answered = rest .answered;
+        state = rest .state;
+        moved = ap (λ (ns : List ℕ). shownAll g ps ∷ ns) (rest .moved);
+        synced = rest .synced;
+        memory = rest .memory;
+        size = rest .size;
+        accepts = rest .accepts;
+      })
+
+-- ---- the demand
+
+module _ (g : Geometry) (u : Usable g) (font : List ℕ) (k back : ℕ) (v : Settings) (s : State) (m glass : List ℕ)
+    (i : InStep g font k back v s m glass) (events : List Event) where
+  abbrev one : Feeding
+  one = feedCall g font s m (joined events)
+
+  abbrev since : List Span
+  since = spansSince g font s [] events
+
+  -- the induction, begun with empty spans
+  begun : Serves g font s [] events (play g font s m glass events) one
+  begun =
+      let h = i .holding .accepts in
+      let empty : s ≡ withSpans s (noSpans g) = ap (λ (ps : List Span). withSpans s ps) (i .spans) in
+      let size = ap length (i .shows) ∙ length-take-le (glassLength g) m (glass-fits g u m (i .memory)) in
+      subst (λ (t : State). Serves g font s [] events (play g font t m glass events) one) (sym empty)
+      (serves g u font (i .fonts) events s [] m glass (i .memory) size h (subst (λ (t : State). accepted g t ≡ true) empty h)
+      (shows-synced g m glass (noSpans g) (i .shows)))
+
+  -- one more refresh copies what was written since the last one
+  last-glass : let p = play g font s m glass events in
+      play g font s m glass (events ++ refresh ∷ []) .glass ≡ refreshed g (p .mem) since (p .glass)
+  last-glass =
+      let a = begun in
+      let p = play g font s m glass events in
+      last-refresh g font events s m glass
+      ∙ ap (λ (r : Refreshing). r .glass) (refresh-runs g (p .state) (p .mem) (p .glass) (a .memory) (a .size) (a .accepts))
+      ∙ ap (λ (t : State). refreshed g (p .mem) (t .spans) (p .glass)) (a .state)
+
+  pub served : Served g font k back v s m events (play g font s m glass events) one
+      (play g font s m glass (events ++ refresh ∷ []))
+  served =
+      let a = begun in
+      let p = play g font s m glass events in
+      record {
+        refusals = a .refusals;
+        mem = a .mem;
+        carried = a .carried;
+        answered = a .answered;
+        state = a .state;
+        outside =
+            subst (OnlyInside g k s m) (sym (a .mem)) (feed-outside g u font k back v s m (joined events) (i .holding .held));
+        guest =
+            subst (Guest k back v s) (sym (a .state))
+            (guest-spans k back v s (one .answer .state) since (feed-guest g u font k back v s m (joined events) (i .holding)));
+        shows =
+            last-glass
+            ∙ refreshed-shows g (p .mem) (p .glass) since (a .size) (a .synced) (glass-fits g u (p .mem) (a .memory));
+        moved = a .moved;
+        most = λ n. rw (a .moved) (owed-most g font events s [] n);
+        only = λ n l out.
+            ap (λ (q : List ℕ). getD q n 0) last-glass
+            ∙ refreshed-out g (p .mem) since (p .glass) n (omega (arith, a .size))
+            (λ c. not-both (covered g since n) out (covered-test g since n c));
+      }
+
+-- ---- how it is begun
+
+-- a feed, refused or not, keeps a glass in step that shows memory wherever no span is
+pub feed-in-step : (g : Geometry) → Usable g → (font : List ℕ) (s : State) (m glass bytes : List ℕ) → Sized g s
+    → Synced g m glass (s .spans)
+    → let f = feedCall g font s m bytes in Synced g (f .mem) glass (f .answer .state .spans)
+unfolding feedCall
+feed-in-step g u font s m glass bytes sized synced =
+    by-cond (λ (f : Feeding). Synced g (f .mem) glass (f .answer .state .spans)) (isAccepted (feedRefusal g font s m))
+    (λ e.
+    let start = fedNothing Accepted s m in
+    subst₂ (λ (n : List ℕ) (ps : List Span). Synced g n glass ps) (sym (run-mem g font start bytes))
+    (sym (run-spans g font start bytes))
+    (strokes-synced g m glass (s .spans) (strokesOf g font s bytes) (sized .spans)
+    (glass-fits g u m (feed-given g font s m e .0)) synced))
+    (λ _. synced)
+
+-- a hold that is not refused, and then a refresh
+pub holds-in-step : (g : Geometry) → Usable g → (font : List ℕ) (s : State) (k : ℕ) (m glass : List ℕ)
+    → length font ≡ fontLength → length m ≡ memoryLength g → length glass ≡ glassLength g → Synced g m glass (s .spans)
+    → holdNumber g s k ≡ 0
+    → let r = refreshCall g (holdCall g s k .state) m glass in
+    InStep g font k (s .selected) (s .settings) (r .answer .state) m (r .glass)
+unfolding heldBy emptied
+holds-in-step g u font s k m glass fonts l z synced n =
+    let a = hold-answers g s k in
+    let f = a .number-0 .0 n in
+    let h = held-accepted g s (f .0) k (f .1 .1 .0) (f .1 .1 .1) in
+    rw (a .taken n, refresh-runs g (heldBy s k) m glass l z h)
+    (record {
+      holding = record { accepts = emptied-accepted g (heldBy s k) h; held = refl };
+      spans = refl;
+      shows = refreshed-shows g m glass (s .spans) z synced (glass-fits g u m l);
+      memory = l;
+      fonts = fonts;
+    })

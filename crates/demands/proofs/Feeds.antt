@@ -1,0 +1,102 @@
+-- Demand 2, what is fed: one byte, and a piece as the fold of its bytes. Assumes nothing.
+use mathlib.Core.Path.{_≡_, refl, sym, ap, ap₂, subst, _∙_}
+use mathlib.Core.Bool.{true}
+use mathlib.Core.List.{List, [], _∷_}
+use Prim.Native.Nat.{ℕ, _≤_}
+use native.Mathlib.Nat.{zero-add}
+use native.Mathlib.Omega.{arith}
+use lib.ListN.{length}
+use Rattle.paper.specs.declared.Geometry.{Geometry}
+use Rattle.paper.specs.declared.Refusal.the-variants.{Accepted}
+use Rattle.paper.specs.declared.Outcome.{Outcome}
+use Rattle.paper.specs.declared.Outcome.the-variants.{Unfinished, Carried, OutOfDomain, Cancelled, Unknown, NotCarried, WindowHeld, TooLarge, NotDefined}
+use Rattle.paper.specs.declared.State.{State}
+use Rattle.paper.specs.Panel.{memoryLength, fontLength}
+use Rattle.paper.specs.Strokes.{Stroke, applyAll, markAll}
+use Rattle.paper.specs.Numbers.{refusalNumber, outcomeNumber, carriedBy, answeredBy}
+use Rattle.paper.specs.Settings.{withSpans}
+use Rattle.paper.specs.Bounds.{accepted}
+use Rattle.paper.specs.Carry.{byteMeans}
+use Rattle.paper.specs.Calls.{Feeding, feedRefusal, next, run, fedNothing, feedCall}
+use Rattle.kept.specs.Room.{Usable}
+use Rattle.kept.proofs.Accepted.{run-accepted}
+use Rattle.kept.proofs.Refusals.{feed-taken}
+use Rattle.kept.proofs.Outside.{length-run}
+use Rattle.kept.proofs.Joined.{feed-runs, run-refusal}
+use Rattle.demands.specs.Demands.{ByteFed, OnlyAnswered, fedOnce, fedSingly, PieceFed}
+use Rattle.demands.proofs.Outcomes.{byte-answers}
+
+-- what 11 to 17 count as
+counts-as : (o : Outcome) → 11 ≤ outcomeNumber o → (carriedBy o ≡ 0) × (answeredBy o ≡ 1)
+unfolding outcomeNumber carriedBy answeredBy
+counts-as Unfinished l = absurd (omega arith)
+counts-as Carried l = absurd (omega arith)
+counts-as OutOfDomain l = (refl, refl)
+counts-as Cancelled l = (refl, refl)
+counts-as Unknown l = (refl, refl)
+counts-as NotCarried l = (refl, refl)
+counts-as WindowHeld l = (refl, refl)
+counts-as TooLarge l = (refl, refl)
+counts-as NotDefined l = (refl, refl)
+
+module _ (g : Geometry) (font : List ℕ) where
+  module _ (s : State) (m : List ℕ) (taken : feedRefusal g font s m ≡ Accepted) where
+    -- one byte
+    pub byte-fed : (b : ℕ) → ByteFed g m (byteMeans g font s b) (feedCall g font s m (b ∷ []))
+    unfolding next refusalNumber
+    byte-fed b =
+        rw (feed-runs g font s m (b ∷ []) taken)
+        (record {
+          refusal = refl;
+          outcome = refl;
+          mem = refl;
+          state = refl;
+          carried = zero-add (carriedBy (byteMeans g font s b .outcome));
+          answered = zero-add (answeredBy (byteMeans g font s b .outcome));
+        })
+
+    -- one that is answered 11 to 17
+    pub byte-answered : (b : ℕ) → 11 ≤ outcomeNumber (feedCall g font s m (b ∷ []) .answer .outcome)
+        → OnlyAnswered s m (feedCall g font s m (b ∷ []))
+    byte-answered b l =
+        let f = byte-fed b in
+        let t = byteMeans g font s b in
+        let high = subst (λ (o : Outcome). 11 ≤ outcomeNumber o) (f .outcome) l in
+        let same = byte-answers g font s b .unchanged high in
+        let counts = counts-as (t .outcome) high in
+        record {
+          mem = f .mem ∙ ap (λ (ss : List Stroke). applyAll g m ss) (same .1);
+          state = f .state ∙ ap₂ (λ (q : State) (ss : List Stroke). withSpans q (markAll (q .spans) ss)) (same .0) (same .1);
+          carried = f .carried ∙ counts .0;
+          answered = f .answered ∙ counts .1;
+        }
+
+  -- one byte more, fed by itself
+  once : (f : Feeding) (b : ℕ) → f .answer .refusal ≡ Accepted → feedRefusal g font (f .answer .state) (f .mem) ≡ Accepted
+      → fedOnce g font f b ≡ next g font f b
+  unfolding next
+  once f b e taken =
+      let t = byteMeans g font (f .answer .state) b in
+      rw (
+        feed-runs g font (f .answer .state) (f .mem) (b ∷ []) taken,
+        zero-add (carriedBy (t .outcome)),
+        zero-add (answeredBy (t .outcome)),
+        e,
+      )
+
+  -- every byte of a piece
+  singly : Usable g → (f : Feeding) (bs : List ℕ) → f .answer .refusal ≡ Accepted → length (f .mem) ≡ memoryLength g
+      → length font ≡ fontLength → accepted g (f .answer .state) ≡ true → run g font f bs ≡ fedSingly g font f bs
+  singly u f [] e l k h = refl
+  singly u f (b ∷ bs) e l k h =
+      let taken = feed-taken g font (f .answer .state) (f .mem) l k h in
+      singly u (next g font f b) bs (run-refusal g font f (b ∷ []) ∙ e) (length-run g font f (b ∷ []) ∙ l) k
+      (run-accepted g u font f (b ∷ []) h)
+      ∙ sym (ap (λ (q : Feeding). fedSingly g font q bs) (once f b e taken))
+
+  -- the piece
+  pub piece-fed : Usable g → (s : State) (m bytes : List ℕ) → length m ≡ memoryLength g → length font ≡ fontLength
+      → accepted g s ≡ true → PieceFed g font s m bytes
+  piece-fed u s m bytes l k h =
+      let runs = feed-runs g font s m bytes (feed-taken g font s m l k h) in
+      record { folded = runs; singly = runs ∙ singly u (fedNothing Accepted s m) bytes refl l k h }

@@ -1,0 +1,181 @@
+-- No rule looks at the spans: from a state with other spans every byte means the same, and a run writes the same. So a refresh
+-- between two pieces shows in nothing but the spans. Assumes nothing.
+use mathlib.Core.Path.{_≡_, refl, sym, ap, _∙_}
+use mathlib.Core.Bool.{Bool, true, false, cond, _&&_}
+use mathlib.Core.List.{List, [], _∷_}
+use Prim.Native.Nat.{ℕ}
+use lib.Dec.{eqb}
+use Rattle.paper.specs.declared.Geometry.{Geometry}
+use Rattle.paper.specs.declared.Cursor.{Cursor}
+use Rattle.paper.specs.declared.Span.{Span}
+use Rattle.paper.specs.declared.Half.the-variants.{Nothing}
+use Rattle.paper.specs.declared.Command.{Command}
+use Rattle.paper.specs.declared.Command.the-variants.{Character, Back, Tab, LineFeed, Home, Clear, Return, Select, Initialise, Mode, Set, Enlarge, CursorSet, Define, Cancel, Uncarried}
+use Rattle.paper.specs.declared.Reading.{Reading}
+use Rattle.paper.specs.declared.Reading.the-variants.{More, Whole, Picture, PictureEnd, Cancels, UnknownCode}
+use Rattle.paper.specs.declared.Outcome.{Outcome}
+use Rattle.paper.specs.declared.Outcome.the-variants.{Carried, OutOfDomain, NotCarried, WindowHeld, TooLarge, NotDefined}
+use Rattle.paper.specs.declared.State.{State}
+use Rattle.paper.specs.Strokes.{applyAll, markAll}
+use Rattle.paper.specs.Reading.{readOf}
+use Rattle.paper.specs.Settings.{withHalf, withSpans, cancelled, cursorOf, atCursor, inMode, insideWindow, viewOf, cursorIn}
+use Rattle.paper.specs.Moves.{Moved, htOf, characterOf, lineFeedOf, clearOf}
+use Rattle.paper.specs.Carry.{Meaning, means, moves, becomes, isHeld, notCarried, ownersOnly, outOfDomain, notDefined, cellExceeds, widthNow, heightNow, carriedOut, answers, commandOf, imageStrokes, takeOf, byteMeans}
+use Rattle.paper.specs.Calls.{Feeding, feeding, settled, counted, next, run}
+use Rattle.dots.proofs.Strokes.{apply-append}
+use Rattle.dots.proofs.Spans.{marks-append}
+use Rattle.demands.specs.Events.{onwards, strokesOf}
+
+-- ---- one byte
+
+-- a meaning with other spans; shut, so that a test under it is not written out for each field of a state
+unfoldable pub respan : List Span → Meaning → Meaning
+respan ps t = means (withSpans (t .state) ps) (t .outcome) (t .strokes)
+
+-- a test picks the same on both sides
+same-cond : {A : Type 0} (f : A → A) (t : Bool) {a b c d : A} → c ≡ f a → d ≡ f b → cond t c d ≡ f (cond t a b)
+same-cond f true p q = p
+same-cond f false p q = q
+
+module _ (ps : List Span) (s : State) where
+  -- the current window's cursor elsewhere
+  at-same : (k : Cursor) → atCursor (withSpans s ps) k ≡ withSpans (atCursor s k) ps
+  unfolding atCursor
+  at-same k = same-cond (λ q. withSpans q ps) (eqb (s .selected) 0) refl refl
+
+  -- a window cancelled
+  cancelled-same : (k : ℕ) → cancelled (withSpans s ps) k ≡ withSpans (cancelled s k) ps
+  unfolding cancelled
+  cancelled-same k = same-cond (λ q. withSpans q ps) (eqb (s .selected) k) refl refl
+
+  -- a command that is not carried out
+  answered-same : (o : Outcome) → answers (withSpans s ps) o ≡ respan ps (answers s o)
+  unfolding respan
+  answered-same o = refl
+
+  -- nothing is written and the cursor goes elsewhere
+  placed-same : (k : Cursor) → becomes (atCursor (withSpans s ps) k) ≡ respan ps (becomes (atCursor s k))
+  unfolding respan
+  placed-same k = ap (λ (q : State). becomes q) (at-same k)
+
+  module _ (g : Geometry) where
+    -- what 11, 17 and 16 test
+    tests-same : (c : Command)
+        → (outOfDomain g (withSpans s ps) c ≡ outOfDomain g s c) × (notDefined (withSpans s ps) c ≡ notDefined s c)
+        × (cellExceeds g (withSpans s ps) c ≡ cellExceeds g s c)
+    unfolding outOfDomain insideWindow notDefined cellExceeds viewOf
+    tests-same (Character b) = (refl, refl, refl)
+    tests-same Back = (refl, refl, refl)
+    tests-same Tab = (refl, refl, refl)
+    tests-same LineFeed = (refl, refl, refl)
+    tests-same Home = (refl, refl, refl)
+    tests-same Clear = (refl, refl, refl)
+    tests-same Return = (refl, refl, refl)
+    tests-same (Select k) = (refl, refl, refl)
+    tests-same Initialise = (refl, refl, refl)
+    tests-same (Mode n) = (refl, refl, refl)
+    tests-same (Set key n) = (refl, refl, refl)
+    tests-same (Enlarge x y) = (refl, refl, refl)
+    tests-same (CursorSet x y) = (refl, refl, refl)
+    tests-same (Define a left top width height) = (refl, refl, refl)
+    tests-same (Cancel a) = (refl, refl, refl)
+    tests-same Uncarried = (refl, refl, refl)
+
+    -- a move of the range
+    moved-same : (t : Moved) → moves (withSpans s ps) t ≡ respan ps (moves s t)
+    unfolding cursorIn respan
+    moved-same t = ap (λ (q : State). means q Carried (t .strokes)) (at-same _)
+
+    -- every command that is carried out
+    carried-same : (font : List ℕ) (c : Command) → carriedOut g font (withSpans s ps) c ≡ respan ps (carriedOut g font s c)
+    unfolding carriedOut viewOf cursorIn cursorOf inMode respan
+    carried-same font (Character b) =
+        moved-same (characterOf g font (s .settings .width) (s .settings .style) b (viewOf g s))
+    carried-same font Back = placed-same _
+    carried-same font Tab = moved-same (htOf g (viewOf g s) (widthNow s) (heightNow s))
+    carried-same font LineFeed = moved-same (lineFeedOf g (viewOf g s) (heightNow s))
+    carried-same font Home = placed-same _
+    carried-same font Clear = moved-same (clearOf (viewOf g s))
+    carried-same font Return = placed-same _
+    carried-same font (Select k) = refl
+    carried-same font Initialise = refl
+    carried-same font (Mode n) = placed-same _
+    carried-same font (Set key n) = refl
+    carried-same font (Enlarge x y) = refl
+    carried-same font (CursorSet x y) = placed-same _
+    carried-same font (Define a left top width height) = refl
+    carried-same font (Cancel a) = ap (λ (q : State). becomes q) (cancelled-same a)
+    carried-same font Uncarried = refl
+
+    -- every command
+    command-same : (font : List ℕ) (c : Command) → commandOf g font (withSpans s ps) c ≡ respan ps (commandOf g font s c)
+    unfolding commandOf
+    command-same font c =
+        let same = tests-same c in
+        rw (same .0, same .1, same .2, carried-same font c)
+        (same-cond (respan ps) (notCarried c) (answered-same NotCarried)
+        (same-cond (respan ps) (ownersOnly c && isHeld (s .hold)) (answered-same WindowHeld)
+        (same-cond (respan ps) (outOfDomain g s c) (answered-same OutOfDomain)
+        (same-cond (respan ps) (notDefined s c) (answered-same NotDefined)
+        (same-cond (respan ps) (cellExceeds g s c) (answered-same TooLarge) refl)))))
+
+module _ (g : Geometry) (font : List ℕ) (ps : List Span) (s : State) where
+  -- whatever is read
+  reading-same : (r : Reading) → takeOf g font (withSpans s ps) r ≡ respan ps (takeOf g font s r)
+  unfolding takeOf viewOf imageStrokes respan
+  reading-same (More p) = refl
+  reading-same (Whole c) = command-same ps (withHalf s Nothing) g font c
+  reading-same (Picture column row b next) = refl
+  reading-same (PictureEnd column row b) = refl
+  reading-same Cancels = refl
+  reading-same UnknownCode = refl
+
+  -- every byte: the same outcome and strokes, and the same state but for the spans
+  pub byte-same : (b : ℕ) → byteMeans g font (withSpans s ps) b ≡ respan ps (byteMeans g font s b)
+  unfolding byteMeans
+  byte-same b = reading-same (readOf g (s .half) b)
+
+-- ---- a piece
+
+-- a feed with other spans
+abbrev pub refed : List Span → Feeding → Feeding
+refed ps f =
+    feeding (f .answer .refusal) (withSpans (f .answer .state) ps) (f .answer .carried) (f .answer .answered)
+    (f .answer .outcome) (f .mem)
+
+module _ (g : Geometry) (font : List ℕ) where
+  -- a byte more: the spans grow by what it writes, and no more can be told
+  next-same : (ps : List Span) (f : Feeding) (b : ℕ)
+      → next g font (refed ps f) b ≡ refed (markAll ps (byteMeans g font (f .answer .state) b .strokes)) (next g font f b)
+  unfolding next respan
+  next-same ps f b = ap (λ (t : Meaning). counted g (refed ps f) t) (byte-same g font ps (f .answer .state) b)
+
+  -- a run from other spans is the run, and the spans have grown by what it writes
+  pub run-same : (ps : List Span) (f : Feeding) (bs : List ℕ)
+      → run g font (refed ps f) bs ≡ refed (markAll ps (strokesOf g font (f .answer .state) bs)) (run g font f bs)
+  unfolding next
+  run-same ps f [] = refl
+  run-same ps f (b ∷ bs) =
+      let t = byteMeans g font (f .answer .state) b in
+      let rest = strokesOf g font (settled t) bs in
+      ap (λ (q : Feeding). run g font q bs) (next-same ps f b)
+      ∙ run-same (markAll ps (t .strokes)) (next g font f b) bs
+      ∙ ap (λ (qs : List Span). refed qs (run g font (next g font f b) bs)) (sym (marks-append ps (t .strokes) rest))
+
+  -- where a run ends, and what it has written
+  pub run-state : (f : Feeding) (bs : List ℕ) → run g font f bs .answer .state ≡ onwards g font (f .answer .state) bs
+  unfolding next
+  run-state f [] = refl
+  run-state f (b ∷ bs) = run-state (next g font f b) bs
+
+  pub run-mem : (f : Feeding) (bs : List ℕ)
+      → run g font f bs .mem ≡ applyAll g (f .mem) (strokesOf g font (f .answer .state) bs)
+  unfolding next
+  run-mem f [] = refl
+  run-mem f (b ∷ bs) =
+      let t = byteMeans g font (f .answer .state) b in
+      run-mem (next g font f b) bs ∙ sym (apply-append g (f .mem) (t .strokes) (strokesOf g font (settled t) bs))
+
+  pub run-spans : (f : Feeding) (bs : List ℕ)
+      → run g font f bs .answer .state .spans ≡ markAll (f .answer .state .spans) (strokesOf g font (f .answer .state) bs)
+  run-spans f bs = ap (λ (q : Feeding). q .answer .state .spans) (run-same (f .answer .state .spans) f bs)

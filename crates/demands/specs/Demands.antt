@@ -1,0 +1,290 @@
+-- The three demands on the five calls, sentence by sentence. proofs/Demands shows each of them. Assumes nothing.
+use mathlib.Core.Path.{_≡_}
+use mathlib.Core.Logic.{_↔_, _≢_, _⊎_}
+use mathlib.Core.Bool.{Bool, true, false, _&&_, _||_}
+use mathlib.Core.List.{List, [], _∷_}
+use Prim.Native.Nat.{ℕ, _+_, _<_, _≤_}
+use lib.Dec.{eqb}
+use lib.ListN.{length, getD, replicate}
+use Rattle.paper.specs.declared.Geometry.{Geometry}
+use Rattle.paper.specs.declared.Settings.{Settings}
+use Rattle.paper.specs.declared.Half.the-variants.{Nothing}
+use Rattle.paper.specs.declared.Command.{Command}
+use Rattle.paper.specs.declared.Reading.{Reading}
+use Rattle.paper.specs.declared.Reading.the-variants.{More, Whole, Picture, PictureEnd, Cancels, UnknownCode}
+use Rattle.paper.specs.declared.Refusal.the-variants.{Accepted}
+use Rattle.paper.specs.declared.State.{State}
+use Rattle.paper.specs.Panel.{memoryLength, glassLength, fontLength, columnOf, rowOf}
+use Rattle.paper.specs.Strokes.{noSpan, spanHolds, applyAll, refreshed, shownAll}
+use Rattle.paper.specs.Numbers.{refusalNumber, outcomeNumber, carriedBy, answeredBy}
+use Rattle.paper.specs.Reading.{between}
+use Rattle.paper.specs.Settings.{initialState, withHalf, withSpans, windowAt, isDefined}
+use Rattle.paper.specs.Bounds.{accepted}
+use Rattle.paper.specs.Cells.{eraseStroke}
+use Rattle.paper.specs.Carry.{notCarried, isHeld, ownersOnly, outOfDomain, notDefined, cellExceeds, Meaning}
+use Rattle.paper.specs.Calls.{Feeding, feeding, settled, run, fedNothing, started, startCall, feedCall, heldBy, holdCall, released, releaseCall, emptied, refreshCall}
+use Rattle.kept.specs.Guest.{Holding, Guest, OnlyInside}
+use Rattle.demands.specs.Events.{Event, Play, noSpans, spansSince, owed, visible}
+
+-- ==== DEMAND 1. "Any bytes, buffers and state record may be handed in. Each call answers or refuses by document 01's numbers,
+-- in its order. A refused call changes no lent byte and hands the state back unchanged."
+-- Every number is given exactly when its row holds and none that is tested before it does; 0 is a call that is not refused.
+
+-- n is one of these numbers
+abbrev pub oneOf : List ℕ → ℕ → Bool
+oneOf [] n = false
+oneOf (i ∷ is) n = eqb n i || oneOf is n
+
+-- ---- "Start: 1."
+
+abbrev pub startNumber : Geometry → List ℕ → ℕ
+startNumber g m = refusalNumber (startCall g m .answer .refusal)
+
+pub record StartAnswers (g : Geometry) (m : List ℕ) : Type 0 where
+  pub listed : oneOf (0 ∷ 1 ∷ []) (startNumber g m) ≡ true
+  -- 1: "memory is not 1,024 bytes"
+  pub number-1 : (startNumber g m ≡ 1) ↔ (length m ≢ memoryLength g)
+  pub number-0 : (startNumber g m ≡ 0) ↔ (length m ≡ memoryLength g)
+  -- "refused, it gives the initial state with both spans empty", and nothing lent changes
+  pub refused : startNumber g m ≢ 0 → (startCall g m .answer .state ≡ initialState g) × (startCall g m .mem ≡ m)
+  -- "Start does the same [as initialise] and marks all as written."
+  pub taken : startNumber g m ≡ 0
+      → (startCall g m .answer .state ≡ started g) × (startCall g m .mem ≡ applyAll g m (eraseStroke g ∷ []))
+
+-- ---- "Feed: 1, 2, 8."
+
+abbrev pub feedNumber : Geometry → List ℕ → State → List ℕ → List ℕ → ℕ
+feedNumber g font s m bytes = refusalNumber (feedCall g font s m bytes .answer .refusal)
+
+-- "nothing lent and nothing in the state changes, and every count given back is 0", and the outcome is 9
+pub record NothingFed (s : State) (m : List ℕ) (f : Feeding) : Type 0 where
+  pub state : f .answer .state ≡ s
+  pub mem : f .mem ≡ m
+  pub carried : f .answer .carried ≡ 0
+  pub answered : f .answer .answered ≡ 0
+  pub outcome : outcomeNumber (f .answer .outcome) ≡ 9
+
+pub record FeedAnswers (g : Geometry) (font : List ℕ) (s : State) (m bytes : List ℕ) : Type 0 where
+  pub listed : oneOf (0 ∷ 1 ∷ 2 ∷ 8 ∷ []) (feedNumber g font s m bytes) ≡ true
+  -- 1: "memory is not 1,024 bytes"
+  pub number-1 : (feedNumber g font s m bytes ≡ 1) ↔ (length m ≢ memoryLength g)
+  -- 2: "font is not 1,120 bytes"
+  pub number-2 : (feedNumber g font s m bytes ≡ 2) ↔ ((length m ≡ memoryLength g) × (length font ≢ fontLength))
+  -- 8: "state record breaks a bound of this paper"
+  pub number-8 : (feedNumber g font s m bytes ≡ 8)
+      ↔ ((length m ≡ memoryLength g) × ((length font ≡ fontLength) × (accepted g s ≡ false)))
+  pub number-0 : (feedNumber g font s m bytes ≡ 0)
+      ↔ ((length m ≡ memoryLength g) × ((length font ≡ fontLength) × (accepted g s ≡ true)))
+  pub refused : feedNumber g font s m bytes ≢ 0 → NothingFed s m (feedCall g font s m bytes)
+
+-- ---- "Hold: 8, 6, 4, 5."
+
+abbrev pub holdNumber : Geometry → State → ℕ → ℕ
+holdNumber g s k = refusalNumber (holdCall g s k .refusal)
+
+pub record HoldAnswers (g : Geometry) (s : State) (k : ℕ) : Type 0 where
+  pub listed : oneOf (0 ∷ 8 ∷ 6 ∷ 4 ∷ 5 ∷ []) (holdNumber g s k) ≡ true
+  -- 8: "state record breaks a bound of this paper"
+  pub number-8 : (holdNumber g s k ≡ 8) ↔ (accepted g s ≡ false)
+  -- 6: "hold while held"
+  pub number-6 : (holdNumber g s k ≡ 6) ↔ ((accepted g s ≡ true) × (isHeld (s .hold) ≡ true))
+  -- 4: "window to hold is not 1 to 4"
+  pub number-4 : (holdNumber g s k ≡ 4)
+      ↔ ((accepted g s ≡ true) × ((isHeld (s .hold) ≡ false) × (between 1 4 k ≡ false)))
+  -- 5: "window to hold is not defined"
+  pub number-5 : (holdNumber g s k ≡ 5)
+      ↔ ((accepted g s ≡ true) × ((isHeld (s .hold) ≡ false)
+      × ((between 1 4 k ≡ true) × (isDefined (windowAt (s .windows) k) ≡ false))))
+  pub number-0 : (holdNumber g s k ≡ 0)
+      ↔ ((accepted g s ≡ true) × ((isHeld (s .hold) ≡ false)
+      × ((between 1 4 k ≡ true) × (isDefined (windowAt (s .windows) k) ≡ true))))
+  pub refused : holdNumber g s k ≢ 0 → holdCall g s k .state ≡ s
+  -- "Hold k drops a half-read command, saves all settings and the selected window, and selects k."
+  pub taken : holdNumber g s k ≡ 0 → holdCall g s k .state ≡ heldBy s k
+
+-- ---- "Release: 8, 7."
+
+abbrev pub releaseNumber : Geometry → State → ℕ
+releaseNumber g s = refusalNumber (releaseCall g s .refusal)
+
+pub record ReleaseAnswers (g : Geometry) (s : State) : Type 0 where
+  pub listed : oneOf (0 ∷ 8 ∷ 7 ∷ []) (releaseNumber g s) ≡ true
+  -- 8: "state record breaks a bound of this paper"
+  pub number-8 : (releaseNumber g s ≡ 8) ↔ (accepted g s ≡ false)
+  -- 7: "release while not held"
+  pub number-7 : (releaseNumber g s ≡ 7) ↔ ((accepted g s ≡ true) × (isHeld (s .hold) ≡ false))
+  pub number-0 : (releaseNumber g s ≡ 0) ↔ ((accepted g s ≡ true) × (isHeld (s .hold) ≡ true))
+  pub refused : releaseNumber g s ≢ 0 → releaseCall g s .state ≡ s
+  -- "Release drops a half-read command and puts the saved settings and selection back"
+  pub taken : releaseNumber g s ≡ 0 → releaseCall g s .state ≡ released s
+
+-- ---- "Refresh: 1, 3, 8."
+
+abbrev pub refreshNumber : Geometry → State → List ℕ → List ℕ → ℕ
+refreshNumber g s m glass = refusalNumber (refreshCall g s m glass .answer .refusal)
+
+pub record RefreshAnswers (g : Geometry) (s : State) (m glass : List ℕ) : Type 0 where
+  pub listed : oneOf (0 ∷ 1 ∷ 3 ∷ 8 ∷ []) (refreshNumber g s m glass) ≡ true
+  -- 1: "memory is not 1,024 bytes"
+  pub number-1 : (refreshNumber g s m glass ≡ 1) ↔ (length m ≢ memoryLength g)
+  -- 3: "glass is not 224 bytes"
+  pub number-3 : (refreshNumber g s m glass ≡ 3) ↔ ((length m ≡ memoryLength g) × (length glass ≢ glassLength g))
+  -- 8: "state record breaks a bound of this paper"
+  pub number-8 : (refreshNumber g s m glass ≡ 8)
+      ↔ ((length m ≡ memoryLength g) × ((length glass ≡ glassLength g) × (accepted g s ≡ false)))
+  pub number-0 : (refreshNumber g s m glass ≡ 0)
+      ↔ ((length m ≡ memoryLength g) × ((length glass ≡ glassLength g) × (accepted g s ≡ true)))
+  -- the state and the glass stay, and the count is 0
+  pub refused : refreshNumber g s m glass ≢ 0
+      → (refreshCall g s m glass .answer .state ≡ s) × (refreshCall g s m glass .answer .moved ≡ 0)
+      × (refreshCall g s m glass .glass ≡ glass)
+  -- "Refresh copies each span's visible columns, changes no other glass byte, empties both spans, and reports the number of
+  -- bytes moved, which is the sum of the visible span lengths"
+  pub taken : refreshNumber g s m glass ≡ 0
+      → (refreshCall g s m glass .answer .state ≡ emptied g s)
+      × (refreshCall g s m glass .answer .moved ≡ shownAll g (s .spans))
+      × (refreshCall g s m glass .glass ≡ refreshed g m (s .spans) glass)
+
+-- ==== DEMAND 2. "After every byte, dots, cursors, windows, modes and outcome are document 01's; an out-of-range command has the
+-- effect given there and no other." Feeding single bytes shows every outcome; a fed piece is the fold.
+
+-- ---- one byte
+
+-- t is what document 01 has one byte come to: "So feeding single bytes shows every outcome."
+pub record ByteFed (g : Geometry) (m : List ℕ) (t : Meaning) (f : Feeding) : Type 0 where
+  pub refusal : refusalNumber (f .answer .refusal) ≡ 0
+  pub outcome : f .answer .outcome ≡ t .outcome
+  -- dots
+  pub mem : f .mem ≡ applyAll g m (t .strokes)
+  -- cursors, windows, modes, settings, what is half read; and the spans, grown by what was written
+  pub state : f .answer .state ≡ settled t
+  -- "two counts: commands carried out, and commands answered 11 to 17"
+  pub carried : f .answer .carried ≡ carriedBy (t .outcome)
+  pub answered : f .answer .answered ≡ answeredBy (t .outcome)
+
+-- what a byte is read as: it finishes nothing, or ends an image, or makes a command whole of which P holds
+abbrev pub finishes : Reading → Bool
+finishes (More p) = false
+finishes (Whole c) = true
+finishes (Picture column row b next) = false
+finishes (PictureEnd column row b) = true
+finishes Cancels = true
+finishes UnknownCode = true
+
+abbrev pub endsImage : Reading → Bool
+endsImage (More p) = false
+endsImage (Whole c) = false
+endsImage (Picture column row b next) = false
+endsImage (PictureEnd column row b) = true
+endsImage Cancels = false
+endsImage UnknownCode = false
+
+abbrev pub IsCommand : Reading → (Command → Type 0) → Type 0
+IsCommand r P = (c : Command) × (r ≡ Whole c) × P c
+
+-- "Order for one command: .. then 14, 15, 11, 17, 16": P, and of a row and those before it none holds
+abbrev pub After14 : Command → Type 0 → Type 0
+After14 c P = (notCarried c ≡ false) × P
+
+abbrev pub After15 : State → Command → Type 0 → Type 0
+After15 s c P = After14 c (((ownersOnly c && isHeld (s .hold)) ≡ false) × P)
+
+abbrev pub After11 : Geometry → State → Command → Type 0 → Type 0
+After11 g s c P = After15 s c ((outOfDomain g s c ≡ false) × P)
+
+abbrev pub After17 : Geometry → State → Command → Type 0 → Type 0
+After17 g s c P = After11 g s c ((notDefined s c ≡ false) × P)
+
+-- s is the state with nothing half read, r what the byte was read as, t what it comes to
+pub record ByteAnswers (g : Geometry) (s : State) (r : Reading) (t : Meaning) : Type 0 where
+  pub listed : (9 ≤ outcomeNumber (t .outcome)) × (outcomeNumber (t .outcome) ≤ 17)
+  -- 9: "when that byte finished nothing"
+  pub number-9 : (outcomeNumber (t .outcome) ≡ 9) ↔ (finishes r ≡ false)
+  -- 10: "when it finished a command that was carried out"
+  pub number-10 : (outcomeNumber (t .outcome) ≡ 10)
+      ↔ ((endsImage r ≡ true) ⊎ IsCommand r (λ c. After17 g s c (cellExceeds g s c ≡ false)))
+  -- 11: "command read whole, a parameter out of its domain"
+  pub number-11 : (outcomeNumber (t .outcome) ≡ 11) ↔ IsCommand r (λ c. After15 s c (outOfDomain g s c ≡ true))
+  -- 12: "cancelled at a byte"
+  pub number-12 : (outcomeNumber (t .outcome) ≡ 12) ↔ (r ≡ Cancels)
+  -- 13: "unknown code, given at the byte that makes it unknown"
+  pub number-13 : (outcomeNumber (t .outcome) ≡ 13) ↔ (r ≡ UnknownCode)
+  -- 14: "not carried, read whole"
+  pub number-14 : (outcomeNumber (t .outcome) ≡ 14) ↔ IsCommand r (λ c. notCarried c ≡ true)
+  -- 15: "refused because a window is held, read whole"
+  pub number-15 : (outcomeNumber (t .outcome) ≡ 15)
+      ↔ IsCommand r (λ c. After14 c ((ownersOnly c && isHeld (s .hold)) ≡ true))
+  -- 16: "a character, BS, HT or LF while the character cell exceeds the range"
+  pub number-16 : (outcomeNumber (t .outcome) ≡ 16) ↔ IsCommand r (λ c. After17 g s c (cellExceeds g s c ≡ true))
+  -- 17: "select of an undefined window"
+  pub number-17 : (outcomeNumber (t .outcome) ≡ 17) ↔ IsCommand r (λ c. After11 g s c (notDefined s c ≡ true))
+  -- "no dot, cursor, window or setting changes by a command so answered": nothing is half read, and that is all
+  pub unchanged : 11 ≤ outcomeNumber (t .outcome) → (t .state ≡ s) × (t .strokes ≡ [])
+
+-- the same of the byte as it is fed: nothing changes, and one command more is answered
+pub record OnlyAnswered (s : State) (m : List ℕ) (f : Feeding) : Type 0 where
+  pub mem : f .mem ≡ m
+  pub state : f .answer .state ≡ withHalf s Nothing
+  pub carried : f .answer .carried ≡ 0
+  pub answered : f .answer .answered ≡ 1
+
+-- ---- a piece
+
+-- one more byte fed, by itself, and its counts added
+abbrev pub fedOnce : Geometry → List ℕ → Feeding → ℕ → Feeding
+fedOnce g font f b =
+    let h = feedCall g font (f .answer .state) (f .mem) (b ∷ []) in
+    feeding (h .answer .refusal) (h .answer .state) (f .answer .carried + h .answer .carried)
+    (f .answer .answered + h .answer .answered) (h .answer .outcome) (h .mem)
+
+-- every byte of a piece fed by itself
+abbrev pub fedSingly : Geometry → List ℕ → Feeding → List ℕ → Feeding
+fedSingly g font f [] = f
+fedSingly g font f (b ∷ bs) = fedSingly g font (fedOnce g font f b) bs
+
+-- "A feed takes the whole piece and gives two counts .. It also gives the outcome of the piece's last byte"
+pub record PieceFed (g : Geometry) (font : List ℕ) (s : State) (m bytes : List ℕ) : Type 0 where
+  -- the piece is the fold of its bytes
+  pub folded : feedCall g font s m bytes ≡ run g font (fedNothing Accepted s m) bytes
+  -- and is what its bytes give one by one, counts summed
+  pub singly : feedCall g font s m bytes ≡ fedSingly g font (fedNothing Accepted s m) bytes
+
+-- ==== DEMAND 3. "From any accepted state with a user window held and the glass in step, any bytes, cut anywhere, with refreshes
+-- anywhere between, give what document 01 gives for the joined bytes; no cell outside the window changes, its cursor stays
+-- inside; after a last refresh the glass equals the visible memory, and each refresh moved only the spans written since the one
+-- before."
+
+-- what is begun with: window k is held, the glass equals the visible memory, both spans are empty, and the lent bytes are as
+-- many as asked
+pub record InStep (g : Geometry) (font : List ℕ) (k back : ℕ) (v : Settings) (s : State) (m glass : List ℕ) : Type 0 where
+  pub holding : Holding g k back v s
+  pub spans : s .spans ≡ noSpans g
+  pub shows : glass ≡ visible g m
+  pub memory : length m ≡ memoryLength g
+  pub fonts : length font ≡ fontLength
+
+-- p is what the pieces and refreshes come to, one is what the joined bytes come to, fed at once, and last is p with one more
+-- refresh
+pub record Served (g : Geometry) (font : List ℕ) (k back : ℕ) (v : Settings) (s : State) (m : List ℕ) (events : List Event)
+    (p : Play) (one : Feeding) (last : Play) : Type 0 where
+  -- no call is refused
+  pub refusals : p .refusals ≡ replicate (length events) Accepted
+  -- "what document 01 gives for the joined bytes": memory, the summed counts, and the state: cursors, settings, windows, hold
+  -- and what is half read; its spans hold what was written since the last refresh
+  pub mem : p .mem ≡ one .mem
+  pub carried : p .carried ≡ one .answer .carried
+  pub answered : p .answered ≡ one .answer .answered
+  pub state : p .state ≡ withSpans (one .answer .state) (spansSince g font s [] events)
+  -- "no cell outside the window changes"
+  pub outside : OnlyInside g k s m (p .mem)
+  -- "its cursor stays inside", and its rectangle, the hold, the selection, the base and the other windows are as they were
+  pub guest : Guest k back v s (p .state)
+  -- "after a last refresh the glass equals the visible memory"
+  pub shows : last .glass ≡ visible g (p .mem)
+  -- "each refresh moved only the spans written since the one before": as many bytes as these have, "224 at most"
+  pub moved : p .moved ≡ owed g font s [] events
+  pub most : (i : ℕ) → getD (p .moved) i 0 ≤ glassLength g
+  -- and no other byte of the glass
+  pub only : (a : ℕ) → a < glassLength g
+      → spanHolds (getD (spansSince g font s [] events) (rowOf g a) noSpan) (columnOf g a) ≡ false
+      → getD (last .glass) a 0 ≡ getD (p .glass) a 0

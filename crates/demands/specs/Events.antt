@@ -1,0 +1,109 @@
+-- What a caller may do with a panel that he feeds and looks at: pieces and refreshes in any order, what they come to, and what
+-- each refresh then has to move. Assumes nothing.
+use mathlib.Core.List.{List, [], _∷_, _++_}
+use Prim.Native.Nat.{ℕ, _+_}
+use lib.ListN.{replicate, take}
+use Rattle.paper.specs.declared.Geometry.{Geometry}
+use Rattle.paper.specs.declared.Span.{Span}
+use Rattle.paper.specs.declared.Refusal.{Refusal}
+use Rattle.paper.specs.declared.State.{State}
+use Rattle.paper.specs.Panel.{glassLength}
+use Rattle.paper.specs.Strokes.{Stroke, noSpan, markAll, shownAll}
+use Rattle.paper.specs.Carry.{byteMeans}
+use Rattle.paper.specs.Calls.{Feeding, Refreshing, settled, feedCall, refreshCall}
+
+-- "any bytes, cut anywhere, with refreshes anywhere between"
+pub data Event : Type 0 where
+  piece : List ℕ → Event
+  refresh : Event
+
+-- the joined bytes
+abbrev pub joined : List Event → List ℕ
+joined [] = []
+joined (piece bs ∷ es) = bs ++ joined es
+joined (refresh ∷ es) = joined es
+
+-- ---- what the calls make of it
+
+-- state, memory and glass at the end, the counts summed, what each refresh moved and what each call answered, in their order
+pub record Play : Type 0 where
+  pub state : State
+  pub mem : List ℕ
+  pub glass : List ℕ
+  pub carried : ℕ
+  pub answered : ℕ
+  pub moved : List ℕ
+  pub refusals : List Refusal
+
+-- nothing is done
+abbrev pub resting : State → List ℕ → List ℕ → Play
+resting s m glass =
+    record { state = s; mem = m; glass = glass; carried = 0; answered = 0; moved = []; refusals = [] }
+
+-- a feed, and what came after it
+abbrev pub fedThen : Feeding → Play → Play
+fedThen f p =
+    record {
+      state = p .state;
+      mem = p .mem;
+      glass = p .glass;
+      carried = f .answer .carried + p .carried;
+      answered = f .answer .answered + p .answered;
+      moved = p .moved;
+      refusals = f .answer .refusal ∷ p .refusals;
+    }
+
+-- a refresh, and what came after it
+abbrev pub refreshedThen : Refreshing → Play → Play
+refreshedThen r p =
+    record {
+      state = p .state;
+      mem = p .mem;
+      glass = p .glass;
+      carried = p .carried;
+      answered = p .answered;
+      moved = r .answer .moved ∷ p .moved;
+      refusals = r .answer .refusal ∷ p .refusals;
+    }
+
+-- each piece is fed and each refresh made, on what the one before left
+abbrev pub play : Geometry → List ℕ → State → List ℕ → List ℕ → List Event → Play
+play g font s m glass [] = resting s m glass
+play g font s m glass (piece bs ∷ es) =
+    let f = feedCall g font s m bs in fedThen f (play g font (f .answer .state) (f .mem) glass es)
+play g font s m glass (refresh ∷ es) =
+    let r = refreshCall g s m glass in refreshedThen r (play g font (r .answer .state) m (r .glass) es)
+
+-- ---- what document 01 has written at each refresh
+
+-- the state that bytes lead to, by their meaning
+abbrev pub onwards : Geometry → List ℕ → State → List ℕ → State
+onwards g font s [] = s
+onwards g font s (b ∷ bs) = onwards g font (settled (byteMeans g font s b)) bs
+
+-- all that bytes write, in order
+abbrev pub strokesOf : Geometry → List ℕ → State → List ℕ → List Stroke
+strokesOf g font s [] = []
+strokesOf g font s (b ∷ bs) = byteMeans g font s b .strokes ++ strokesOf g font (settled (byteMeans g font s b)) bs
+
+-- "both spans empty"
+abbrev pub noSpans : Geometry → List Span
+noSpans g = replicate (g .rows) noSpan
+
+-- the spans of what was written since the last refresh, `since` being what was written before these events. The state goes on
+-- as the joined bytes take it: no refresh changes it
+abbrev pub spansSince : Geometry → List ℕ → State → List Stroke → List Event → List Span
+spansSince g font s since [] = markAll (noSpans g) since
+spansSince g font s since (piece bs ∷ es) =
+    spansSince g font (onwards g font s bs) (since ++ strokesOf g font s bs) es
+spansSince g font s since (refresh ∷ es) = spansSince g font s [] es
+
+-- "the sum of the visible span lengths", for each refresh, of what was written since the one before
+abbrev pub owed : Geometry → List ℕ → State → List Stroke → List Event → List ℕ
+owed g font s since [] = []
+owed g font s since (piece bs ∷ es) = owed g font (onwards g font s bs) (since ++ strokesOf g font s bs) es
+owed g font s since (refresh ∷ es) = shownAll g (markAll (noSpans g) since) ∷ owed g font s [] es
+
+-- "the visible memory": columns 0 to 111 are its first bytes
+abbrev pub visible : Geometry → List ℕ → List ℕ
+visible g m = take (glassLength g) m
