@@ -4,7 +4,7 @@
 ghost use mathlib.Core.Path.{_≡_};
 ghost use Rattle.paper.specs.Bounds.{settingsOk, cursorOk, isBlank, windowOk, windowsOk, holdOk, spanOk, spansOk, wordOk, halfOk, accepted};
 ghost use Rattle.paper.specs.Reading.{between};
-ghost use Rattle.paper.specs.Settings.{inDomain, inEnlargement, selectable, fits};
+ghost use Rattle.paper.specs.Settings.{inDomain, inEnlargement, isDefined, selectable, fits};
 use paper::Cursor;
 use paper::Geometry;
 use paper::Half;
@@ -99,19 +99,25 @@ fn windows_ok(g: Geometry, ws: [Window; 4]) -> bool
     window_ok(g, ws[0]) & window_ok(g, ws[1]) & window_ok(g, ws[2]) & window_ok(g, ws[3])
 }
 
+// The window is defined.
+pub fn is_defined(w: Window) -> bool
+    ensures { λ r. ⌜ r ≡ isDefined w ⌝ }
+{
+    0 < w.width
+}
+
 // k is the base window or a defined user window.
 pub fn selectable(ws: [Window; 4], k: u8) -> bool
     ensures { λ r. ⌜ r ≡ selectable ws k ⌝ }
 {
-    if k == 0 {
-        return true;
+    match k {
+        0 => true,
+        1 => is_defined(ws[0]),
+        2 => is_defined(ws[1]),
+        3 => is_defined(ws[2]),
+        4 => is_defined(ws[3]),
+        _ => false,
     }
-    if 4 < k {
-        return false;
-    }
-    let i = (k - 1) as usize;
-    let w = ws[i];
-    0 < w.width
 }
 
 // While held: the held window is the selected one, and what the release puts back may be put back.

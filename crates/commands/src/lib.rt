@@ -94,7 +94,7 @@ pub fn select(g: Geometry, s: State, held: bool, k: u8) -> Done
         return ends(s, Outcome::OutOfDomain);
     }
     let windows = s.windows;
-    if windows::is_selectable(windows, k) {
+    if accept::selectable(windows, k) {
         return ends(State { selected: k, ..s }, Outcome::Carried);
     }
     ends(s, Outcome::NotDefined)
@@ -119,7 +119,7 @@ pub fn set(g: Geometry, s: State, held: bool, key: Key, n: u8) -> Done
     if windows::is_write(key) & held {
         return ends(s, Outcome::WindowHeld);
     }
-    if windows::in_domain(key, n) {
+    if accept::in_domain(key, n) {
         let v = s.settings;
         let settings = windows::with_setting(v, key, n);
         return ends(State { settings, ..s }, Outcome::Carried);
@@ -132,7 +132,7 @@ pub fn enlarge(g: Geometry, s: State, x: u8, y: u8) -> Done
     requires { ⌜ s .selected ≤ 4 ⌝ }
     ensures { λ r. ⌜ ((font : List ℕ) → Says r (commandOf g font s (Command.Enlarge x y))) ⌝ }
 {
-    if windows::in_enlargement(x, y) {
+    if accept::in_enlargement(x, y) {
         let v = s.settings;
         let settings = windows::enlarge(v, x, y);
         return ends(State { settings, ..s }, Outcome::Carried);
@@ -172,7 +172,7 @@ pub fn define(
     if held {
         return ends(s, Outcome::WindowHeld);
     }
-    if windows::fits_memory(g, left, top, width, height) {
+    if accept::fits(g, left, top, width, height) {
         return ends(
             windows::define(s, a, left, top, width, height),
             Outcome::Carried,

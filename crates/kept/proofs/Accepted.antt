@@ -133,7 +133,7 @@ module _ (g : Geometry) (u : Usable g) where
         (λ q o column row c e.
         record {
           state = whole g _ (half-parts g s p q e);
-          strokes = view-inside s h (imageStrokes v s column row c) (image-inside v s column row c);
+          strokes = view-inside s h (imageStrokes v (s .settings .style) column row c) (image-inside v (s .settings .style) column row c);
         })
         (λ c o a. carried-sound (withHalf s Nothing) (whole g _ (half-parts g s p Nothing refl)) font c o a)
         b (p .half)

@@ -47,7 +47,7 @@ module _ (g : Geometry) (font : List ℕ) (P : Meaning → Type 0) where
   -- by what is half read afterwards: nothing is written, an image byte is, or a command that is allowed is carried out
   module _ (s : State) (quiet : (p : Half) (o : Outcome) → halfOk g p ≡ true → P (means (withHalf s p) o []))
       (image : (p : Half) (o : Outcome) (column row b : ℕ) → halfOk g p ≡ true
-      → P (means (withHalf s p) o (imageStrokes (viewOf g s) s column row b)))
+      → P (means (withHalf s p) o (imageStrokes (viewOf g s) (s .settings .style) column row b)))
       (done : (c : Command) → commandOk c ≡ true → Allowed g (withHalf s Nothing) c
       → P (carriedOut g font (withHalf s Nothing) c)) where
     -- whatever is read
@@ -70,7 +70,7 @@ module _ (g : Geometry) (font : List ℕ) (P : Meaning → Type 0) where
   -- the same of a state of which nothing is known
   module _ (s : State) (quiet : (p : Half) (o : Outcome) → P (means (withHalf s p) o []))
       (image : (p : Half) (o : Outcome) (column row b : ℕ)
-      → P (means (withHalf s p) o (imageStrokes (viewOf g s) s column row b)))
+      → P (means (withHalf s p) o (imageStrokes (viewOf g s) (s .settings .style) column row b)))
       (done : (c : Command) → P (carriedOut g font (withHalf s Nothing) c)) where
     -- whatever is read
     any-reading : (r : Reading) → P (takeOf g font s r)

@@ -152,7 +152,7 @@ module _ (g : Geometry) (u : Usable g) (font : List ℕ) where
       (λ q o column row c e.
       record {
         state = unmoved s₀ _ refl refl refl refl;
-        strokes = window-inside s user g (imageStrokes (viewOf g s) s column row c) (image-inside (viewOf g s) s column row c);
+        strokes = window-inside s user g (imageStrokes (viewOf g s) (s .settings .style) column row c) (image-inside (viewOf g s) (s .settings .style) column row c);
       })
       (λ c o a. carried-within s₀ user g u font (whole g _ (half-parts g s p Nothing refl)) held c a)
       b (p .half)

@@ -96,10 +96,10 @@ module _ (v : View) where
   cell-kept g i rule y c d = writing-kept _ (v .x) (v .y) (i .x) (i .y) (omega arith)
 
   -- an image byte, stored or outside the range
-  pub image-inside : (s : State) (column row b : ℕ)
-      → AllIn (v .left) (v .top) (v .width) (v .height) (imageStrokes v s column row b)
+  pub image-inside : (y : Style) (column row b : ℕ)
+      → AllIn (v .left) (v .top) (v .width) (v .height) (imageStrokes v y column row b)
   unfolding imageStrokes
-  image-inside s column row b =
+  image-inside y column row b =
       by-cond (AllIn (v .left) (v .top) (v .width) (v .height)) (ltb (v .x + column) (v .width) && ltb (v .y + row) (v .height))
       (λ e.
       let f = both-of (ltb (v .x + column) (v .width)) (ltb (v .y + row) (v .height)) e in

@@ -16,7 +16,7 @@ use Rattle.paper.specs.Numbers.{carriedBy, answeredBy}
 use Rattle.paper.specs.Carry.{Meaning, byteMeans}
 use Rattle.paper.specs.Calls.{Feeding, feeding, counted, next, run}
 use Rattle.commands.specs.declared.Done.{Done}
-use Rattle.carry.specs.Does.{Does}
+use Rattle.writes.specs.Does.{Does}
 use Rattle.kept.specs.Room.{Usable}
 use Rattle.kept.proofs.Accepted.{accepted-kept}
 use Rattle.kept.proofs.Joined.{run-append}

@@ -19,7 +19,7 @@ ghost use Rattle.paper.specs.Panel.{panel, fontLength};
 ghost use Rattle.paper.specs.Numbers.{carriedBy, answeredBy};
 ghost use Rattle.paper.specs.Settings.{windowAt, isDefined};
 ghost use Rattle.paper.specs.Calls.{answer, startCall, next, run, fedNothing, feedCall, heldBy, holdCall, putBack, releaseCall, refreshing, refreshCall};
-ghost use Rattle.carry.specs.Does.{Ready};
+ghost use Rattle.writes.specs.Does.{Ready};
 ghost use Rattle.panel.specs.Told.{started, fed, refreshed};
 
 // The 112 by 16 module.

@@ -5,6 +5,7 @@ use mathlib.Core.Bool.{Bool, true, false, cond, not, _&&_, _||_}
 use mathlib.Core.List.{List, [], _∷_}
 use lib.Dec.{leb, ltb, eqb}
 use Rattle.paper.specs.declared.Geometry.{Geometry}
+use Rattle.paper.specs.declared.Style.{Style}
 use Rattle.paper.specs.declared.View.{View}
 use Rattle.paper.specs.declared.Key.{Key}
 use Rattle.paper.specs.declared.Key.the-variants.{Charset, Codes, Shown, Brightness, Reverse, Speed, Mixing, Width, Write}
@@ -217,17 +218,17 @@ commandOf g font s c =
 -- ---- one byte
 
 -- "stored when it arrives; those outside the range are consumed"
-unfoldable pub imageStrokes : View → State → ℕ → ℕ → ℕ → List Stroke
-imageStrokes v s column row b =
+unfoldable pub imageStrokes : View → Style → ℕ → ℕ → ℕ → List Stroke
+imageStrokes v y column row b =
     cond (ltb (v .x + column) (v .width) && ltb (v .y + row) (v .height))
-    (imageStroke (s .settings .style) column row b v ∷ []) []
+    (imageStroke y column row b v ∷ []) []
 
 -- "12 and 13 while reading"; "Each byte finishes at most one [command]."
 unfoldable pub takeOf : Geometry → List ℕ → State → Reading → Meaning
 takeOf g font s (More p) = means (withHalf s p) Unfinished []
 takeOf g font s (Whole c) = commandOf g font (withHalf s Nothing) c
-takeOf g font s (Picture column row b next) = means (withHalf s next) Unfinished (imageStrokes (viewOf g s) s column row b)
-takeOf g font s (PictureEnd column row b) = means (withHalf s Nothing) Carried (imageStrokes (viewOf g s) s column row b)
+takeOf g font s (Picture column row b next) = means (withHalf s next) Unfinished (imageStrokes (viewOf g s) (s .settings .style) column row b)
+takeOf g font s (PictureEnd column row b) = means (withHalf s Nothing) Carried (imageStrokes (viewOf g s) (s .settings .style) column row b)
 takeOf g font s Cancels = answers (withHalf s Nothing) Cancelled
 takeOf g font s UnknownCode = answers (withHalf s Nothing) Unknown
 

@@ -14,7 +14,7 @@ use paper::View;
 use paper::Window;
 ghost use mathlib.Core.Path.{_≡_};
 ghost use Prim.Native.Nat.{_+_, _≤_, _<_};
-ghost use Rattle.paper.specs.Settings.{initialSettings, topLeft, noWindow, initialState, inDomain, inEnlargement, enlarged, withSetting, windowAt, selectable, fits, newWindow, defined, cancelled, cursorOf, atCursor, inMode, insideWindow, baseView, windowView, viewOf, withView};
+ghost use Rattle.paper.specs.Settings.{initialSettings, topLeft, noWindow, initialState, enlarged, withSetting, windowAt, newWindow, defined, cancelled, cursorOf, atCursor, inMode, insideWindow, baseView, windowView, viewOf, withView};
 ghost use Rattle.paper.specs.Carry.{isHeld, notCarriedValue, isWrite};
 
 // ---- the initial state
@@ -90,23 +90,6 @@ pub fn initial_state(g: Geometry) -> State
 
 // ---- settings
 
-// Whether a value is in its setting's domain.
-pub fn in_domain(key: Key, n: u8) -> bool
-    ensures { λ r. ⌜ r ≡ inDomain key n ⌝ }
-{
-    match key {
-        Key::Charset => n <= 13,
-        Key::Codes => (n <= 5) | ((16 <= n) & (n <= 19)),
-        Key::Shown => n <= 1,
-        Key::Brightness => (1 <= n) & (n <= 8),
-        Key::Reverse => n <= 1,
-        Key::Speed => n <= 31,
-        Key::Mixing => n <= 3,
-        Key::Width => n <= 1,
-        Key::Write => n <= 1,
-    }
-}
-
 // Whether a value asks for a width that is not carried.
 pub fn not_carried_value(key: Key, n: u8) -> bool
     ensures { λ r. ⌜ r ≡ notCarriedValue key n ⌝ }
@@ -146,13 +129,6 @@ pub fn with_setting(v: Settings, key: Key, n: u8) -> Settings
     t
 }
 
-// Whether an enlargement is one: 1 to 4 across, 1 to 2 down.
-pub fn in_enlargement(x: u8, y: u8) -> bool
-    ensures { λ r. ⌜ r ≡ inEnlargement x y ⌝ }
-{
-    ((1 <= x) & (x <= 4)) & ((1 <= y) & (y <= 2))
-}
-
 // The settings with another enlargement.
 pub fn enlarge(v: Settings, x: u8, y: u8) -> Settings
     ensures { λ r. ⌜ r ≡ enlarged v x y ⌝ }
@@ -179,39 +155,15 @@ pub fn is_held(h: Hold) -> bool
     }
 }
 
-// Whether k names the base window or a defined user window.
-pub fn is_selectable(windows: [Window; 4], k: u8) -> bool
-    ensures { λ r. ⌜ r ≡ selectable windows k ⌝ }
-{
-    if k == 0 {
-        return true;
-    }
-    if 4 < k {
-        return false;
-    }
-    let i = (k - 1) as usize;
-    let w = windows[i];
-    0 < w.width
-}
-
-// Whether a rectangle is a window that the memory holds.
-pub fn fits_memory(g: Geometry, left: u16, top: u16, width: u16, height: u16) -> bool
-    ensures { λ r. ⌜ r ≡ fits g left top width height ⌝ }
-{
-    let right = (left as usize) + (width as usize);
-    let bottom = (top as usize) + (height as usize);
-    (1 <= width) & ((1 <= height) & ((right <= g.columns) & (bottom <= g.rows)))
-}
-
 // The state with user window k (1 to 4) replaced.
 fn with_window(s: State, k: u8, w: Window) -> State
     requires { ⌜ (1 ≤ k) × (k ≤ 4) ⌝ }
     ensures { λ r. ⌜ r ≡ defined s k w ⌝ }
 {
     let i = (k - 1) as usize;
-    let mut t = s;
-    t.windows[i] = w;
-    t
+    let mut windows = s.windows;
+    windows[i] = w;
+    State { windows, ..s }
 }
 
 // Defines user window k, its cursor at its top left, in MD1.
@@ -251,7 +203,8 @@ fn current_window(s: State) -> Window
 {
     let k = s.selected;
     let i = (k - 1) as usize;
-    s.windows[i]
+    let windows = s.windows;
+    windows[i]
 }
 
 // The current window's cursor and mode.

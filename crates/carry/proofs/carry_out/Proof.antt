@@ -8,7 +8,7 @@ use Rattle.laws.specs.Readings.{commandOk}
 use Rattle.laws.proofs.Tests.{between-facts}
 use Rattle.commands.proofs.Answers.{is-14}
 use Rattle.commands.proofs.Facts.{selected-small}
-use Rattle.carry.proofs.Wrote.{does-answer, does-quiet}
+use Rattle.writes.proofs.Wrote.{does-answer, does-quiet}
 use Rattle.carry.proofs.carry_out.Statement.{statement}
 use Rattle.carry.proofs.carry_out.Tie as tie
 

@@ -15,8 +15,8 @@ returns : tie.Need-returns
 unfolding notCarried ownersOnly outOfDomain notDefined cellExceeds carriedOut
 returns c font = says (c .ends .ensures) (is-15 _ font _ (Define _ _ _ _ _) refl (sym (c .before .before .pre .0) ∙ c .before .if1 .taken))
 
-fits-memory-requires : tie.Need-fits-memory-requires
-fits-memory-requires c κs = search needs
+fits-requires : tie.Need-fits-requires
+fits-requires c κs = search needs
 
 define-requires : tie.Need-define-requires
 define-requires c κs = search needs
@@ -31,7 +31,7 @@ returns-2 c font = says (ends-at (c .ends2 .ensures) (c .before .define .ensures
     (record {
       carried = refl;
       owner = sym (c .before .before .before .before .before .pre .0) ∙ c .before .before .before .before .if1 .left;
-      domain = ap not (sym (c .before .before .before .fits-memory .ensures) ∙ c .before .before .if2 .taken);
+      domain = ap not (sym (c .before .before .before .fits2 .ensures) ∙ c .before .before .if2 .taken);
       defined = refl;
       room = refl;
     }))
@@ -43,7 +43,7 @@ returns-3 : tie.Need-returns-3
 unfolding notCarried ownersOnly outOfDomain notDefined cellExceeds carriedOut
 returns-3 c font = says (c .ends3 .ensures)
     (is-11 _ font _ (Define _ _ _ _ _) refl (sym (c .before .before .before .before .pre .0) ∙ c .before .before .before .if1 .left)
-    (ap not (sym (c .before .before .fits-memory .ensures) ∙ c .before .if2 .left)))
+    (ap not (sym (c .before .before .fits2 .ensures) ∙ c .before .if2 .left)))
 
 pub define-spec : {M : Type 1} → statement M
 define-spec =
@@ -51,7 +51,7 @@ define-spec =
     (tie.spec
     ends-requires
     returns
-    fits-memory-requires
+    fits-requires
     define-requires
     ends-requires-2
     returns-2

@@ -25,8 +25,8 @@ returns-2 c font = says (c .ends2 .ensures)
     (is-11 _ font _ (Select _) refl (sym (c .before .before .before .pre) ∙ c .before .before .if1 .left)
     (lt-ltb 4 _ (c .before .if2 .taken)))
 
-is-selectable-requires : tie.Need-is-selectable-requires
-is-selectable-requires c κs = search needs
+selectable-requires : tie.Need-selectable-requires
+selectable-requires c κs = search needs
 
 ends-requires-3 : tie.Need-ends-requires-3
 ends-requires-3 c κs = search needs
@@ -41,7 +41,7 @@ returns-3 c font = says (c .ends3 .ensures)
           ∙ c .before .before .before .before .before .before .before .before .before .if1 .left;
       domain = le-ltb 4 _ (c .before .before .before .before .before .before .before .before .if2 .left);
       defined = ap not
-          (sym (c .before .before .before .before .before .before .is-selectable .ensures)
+          (sym (c .before .before .before .before .before .before .selectable .ensures)
           ∙ c .before .before .before .before .before .if3 .taken);
       room = refl;
     }))
@@ -55,7 +55,7 @@ returns-4 c font = says (c .ends4 .ensures)
     (is-17 _ font _ (Select _) refl
     (sym (c .before .before .before .before .before .before .pre) ∙ c .before .before .before .before .before .if1 .left)
     (le-ltb 4 _ (c .before .before .before .before .if2 .left))
-    (ap not (sym (c .before .before .is-selectable .ensures) ∙ c .before .if3 .left)))
+    (ap not (sym (c .before .before .selectable .ensures) ∙ c .before .if3 .left)))
 
 pub select-spec : {M : Type 1} → statement M
 select-spec =
@@ -65,7 +65,7 @@ select-spec =
     returns
     ends-requires-2
     returns-2
-    is-selectable-requires
+    selectable-requires
     ends-requires-3
     returns-3
     ends-requires-4

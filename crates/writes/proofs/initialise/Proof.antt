@@ -1,12 +1,12 @@
--- `carry::initialise` meets its contract: 15 while held. Assumes nothing.
+-- `writes::initialise` meets its contract: 15 while held. Assumes nothing.
 use borrow.Author.Needs.{needs}
 use mathlib.Core.Path.{refl, sym, _∙_}
 use Rattle.paper.specs.declared.Command.the-variants.{Initialise}
 use Rattle.paper.specs.Carry.{notCarried, ownersOnly, outOfDomain, notDefined, cellExceeds, carriedOut}
 use Rattle.commands.proofs.Answers.{is-15, is-10}
-use Rattle.carry.proofs.Wrote.{does-answer, does-erase}
-use Rattle.carry.proofs.initialise.Statement.{statement}
-use Rattle.carry.proofs.initialise.Tie as tie
+use Rattle.writes.proofs.Wrote.{does-answer, does-erase}
+use Rattle.writes.proofs.initialise.Statement.{statement}
+use Rattle.writes.proofs.initialise.Tie as tie
 
 ends-requires : tie.Need-ends-requires
 ends-requires c κs = search needs

@@ -1,4 +1,4 @@
--- `carry::clear` meets its contract. Assumes nothing.
+-- `writes::clear` meets its contract. Assumes nothing.
 use borrow.Author.Needs.{needs}
 use mathlib.Core.Path.{refl}
 use native.Mathlib.Omega.{arith}
@@ -10,9 +10,9 @@ use Rattle.commands.proofs.Answers.{is-10, ends-at}
 use Rattle.commands.proofs.Facts.{selected-small}
 use Rattle.kept.proofs.Moves.{clear-kept}
 use Rattle.kept.proofs.Views.{view-place}
-use Rattle.carry.proofs.Wrote.{does-move, settles}
-use Rattle.carry.proofs.clear.Statement.{statement}
-use Rattle.carry.proofs.clear.Tie as tie
+use Rattle.writes.proofs.Wrote.{does-move, settles}
+use Rattle.writes.proofs.clear.Statement.{statement}
+use Rattle.writes.proofs.clear.Tie as tie
 
 pen-of-requires : tie.Need-pen-of-requires
 pen-of-requires c κs = let start = c .before in

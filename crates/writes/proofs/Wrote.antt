@@ -35,7 +35,7 @@ use Rattle.dots.specs.Spans.{markRect}
 use Rattle.dots.proofs.Spans.{marked-rect}
 use Rattle.moves.specs.declared.Pen.{Pen}
 use Rattle.moves.specs.Does as pens
-use Rattle.carry.specs.Does.{Ready, Does, Pictured}
+use Rattle.writes.specs.Does.{Ready, Does, Pictured}
 
 -- a cursor set leaves the spans
 pub cursor-spans : (s : State) (k : Cursor) → atCursor s k .spans ≡ s .spans
@@ -101,12 +101,13 @@ ready-half g s m p h r =
     }
 
 -- an image byte, and what is half read after it
-pub does-picture : {g : Geometry} {m m′ : List ℕ} {r : Done} {t : State} (s : State) (p : Half) (o : Outcome) (column row b : ℕ)
-    → Pictured g (viewOf g s) s column row b m t m′ → r ≡ done (withHalf t p) o
-    → Does g m r m′ (means (withHalf s p) o (imageStrokes (viewOf g s) s column row b))
+pub does-picture : {g : Geometry} {m m′ : List ℕ} {r : Done} {ps : List Span} (s : State) (p : Half) (o : Outcome) (column row b : ℕ)
+    → Pictured g (pens.pen (viewOf g s) (s .spans)) (s .settings .style) column row b m ps m′
+    → r ≡ done (withHalf (withSpans s ps) p) o
+    → Does g m r m′ (means (withHalf s p) o (imageStrokes (viewOf g s) (s .settings .style) column row b))
 does-picture s p o column row b d f =
     record {
-      state = ap (λ (x : Done). x .state) f ∙ ap (λ (x : State). withHalf x p) (d .state);
+      state = ap (λ (x : Done). x .state) f ∙ ap (λ (x : List Span). withHalf (withSpans s x) p) (d .spans);
       outcome = ap (λ (x : Done). x .outcome) f;
       mem = d .mem;
     }
@@ -131,23 +132,20 @@ does-erase {g} {m} s c k i f h =
 pub inside-facts : (x w y h : ℕ) → (ltb x w && ltb y h) ≡ true → (x < w) × (y < h)
 inside-facts x w y h t = let f = both-of (ltb x w) (ltb y h) t in (ltb-true x w (f .0), ltb-true y h (f .1))
 
-module _ (g : Geometry) (v : View) (s : State) (column row b : ℕ) (m : List ℕ) where
+module _ (g : Geometry) (p : Pen) (y : Style) (column row b : ℕ) (m : List ℕ) where
   -- an image byte inside the range is stored
-  pub pictured-in : {m′ : List ℕ} {ps : List Span} → (ltb (v .x + column) (v .width) && ltb (v .y + row) (v .height)) ≡ true
-      → m′ ≡ imaged g (s .settings .style) (v .left + (v .x + column)) (v .top + (v .y + row)) b m
-      → ps ≡ markRect (v .left + (v .x + column)) (v .top + (v .y + row)) 1 1 (s .spans)
-      → Pictured g v s column row b m (withSpans s ps) m′
+  pub pictured-in : {m′ : List ℕ} {ps : List Span} → (ltb (p .view .x + column) (p .view .width) && ltb (p .view .y + row) (p .view .height)) ≡ true
+      → m′ ≡ imaged g y (p .view .left + (p .view .x + column)) (p .view .top + (p .view .y + row)) b m
+      → ps ≡ markRect (p .view .left + (p .view .x + column)) (p .view .top + (p .view .y + row)) 1 1 (p .spans)
+      → Pictured g p y column row b m ps m′
   unfolding imageStrokes imaged
   pictured-in t e k =
       record {
-        state =
-            rw t
-            (ap (λ (qs : List Span). withSpans s qs)
-            (k ∙ sym (marked-rect (s .spans) (imageStroke (s .settings .style) column row b v))));
+        spans = rw t (k ∙ sym (marked-rect (p .spans) (imageStroke y column row b (p .view))));
         mem = rw t e;
       }
 
   -- one outside is consumed
-  pub pictured-out : (ltb (v .x + column) (v .width) && ltb (v .y + row) (v .height)) ≡ false → Pictured g v s column row b m s m
+  pub pictured-out : (ltb (p .view .x + column) (p .view .width) && ltb (p .view .y + row) (p .view .height)) ≡ false → Pictured g p y column row b m (p .spans) m
   unfolding imageStrokes
-  pictured-out t = record { state = rw t; mem = rw t }
+  pictured-out t = record { spans = rw t; mem = rw t }

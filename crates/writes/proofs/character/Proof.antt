@@ -1,4 +1,4 @@
--- `carry::character` meets its contract: 16 if a cell exceeds the range. Assumes nothing.
+-- `writes::character` meets its contract: 16 if a cell exceeds the range. Assumes nothing.
 use borrow.Author.Needs.{needs}
 use mathlib.Core.Path.{refl}
 use mathlib.Core.Bool.{true, false}
@@ -12,10 +12,10 @@ use Rattle.commands.proofs.Facts.{selected-small}
 use Rattle.kept.proofs.Moves.{character-kept}
 use Rattle.kept.proofs.Views.{view-room}
 use Rattle.kept.proofs.Parts.{parts}
-use Rattle.carry.proofs.Wrote.{does-answer, does-move, tested, settles}
-use Rattle.carry.proofs.Inks.{inks}
-use Rattle.carry.proofs.character.Statement.{statement}
-use Rattle.carry.proofs.character.Tie as tie
+use Rattle.writes.proofs.Wrote.{does-answer, does-move, tested, settles}
+use Rattle.writes.proofs.Inks.{inks}
+use Rattle.writes.proofs.character.Statement.{statement}
+use Rattle.writes.proofs.character.Tie as tie
 
 pen-of-requires : tie.Need-pen-of-requires
 pen-of-requires c κs = let start = c .before .before in

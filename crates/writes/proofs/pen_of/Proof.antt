@@ -1,10 +1,10 @@
--- `carry::pen_of` meets its contract. Assumes nothing.
+-- `writes::pen_of` meets its contract. Assumes nothing.
 use borrow.Author.Needs.{needs}
 use Rattle.paper.specs.declared.View.{View}
 use Rattle.moves.specs.Does.{pen}
 use mathlib.Core.Path.{ap}
-use Rattle.carry.proofs.pen_of.Statement.{statement}
-use Rattle.carry.proofs.pen_of.Tie as tie
+use Rattle.writes.proofs.pen_of.Statement.{statement}
+use Rattle.writes.proofs.pen_of.Tie as tie
 
 view-of-requires : tie.Need-view-of-requires
 view-of-requires c κs = search needs

@@ -1,10 +1,10 @@
--- `carry::settle` meets its contract. Assumes nothing.
+-- `writes::settle` meets its contract. Assumes nothing.
 use borrow.Author.Needs.{needs}
 use Rattle.paper.specs.declared.State.{State}
 use Rattle.paper.specs.Settings.{withSpans}
 use mathlib.Core.Path.{ap}
-use Rattle.carry.proofs.settle.Statement.{statement}
-use Rattle.carry.proofs.settle.Tie as tie
+use Rattle.writes.proofs.settle.Statement.{statement}
+use Rattle.writes.proofs.settle.Tie as tie
 
 with-view-requires : tie.Need-with-view-requires
 with-view-requires c κs = search needs

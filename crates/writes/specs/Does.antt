@@ -6,14 +6,15 @@ use Prim.Native.Nat.{ℕ}
 use Rattle.paper.specs.declared.Geometry.{Geometry}
 use Rattle.paper.specs.declared.Outcome.{Outcome}
 use Rattle.paper.specs.declared.State.{State}
-use Rattle.paper.specs.declared.View.{View}
+use Rattle.paper.specs.declared.Span.{Span}
+use Rattle.paper.specs.declared.Style.{Style}
 use Rattle.paper.specs.Strokes.{applyAll, markAll}
-use Rattle.paper.specs.Settings.{withSpans}
 use Rattle.paper.specs.Bounds.{accepted}
 use Rattle.paper.specs.Carry.{Meaning, imageStrokes}
 use Rattle.paper.specs.Calls.{settled}
 use Rattle.dots.specs.Rectangles.{Fits}
 use Rattle.kept.specs.Room.{Usable}
+use Rattle.moves.specs.declared.Pen.{Pen}
 use Rattle.commands.specs.declared.Done.{Done}
 
 -- an accepted state and its memory, on a panel that code can count and whose rows are the state's spans
@@ -29,7 +30,7 @@ pub record Does (g : Geometry) (m : List ℕ) (r : Done) (m′ : List ℕ) (t : 
   pub outcome : r .outcome ≡ t .outcome
   pub mem : m′ ≡ applyAll g m (t .strokes)
 
--- one image byte in a range: its strokes grow the spans and move the memory, and nothing else of the state changes
-pub record Pictured (g : Geometry) (v : View) (s : State) (column row b : ℕ) (m : List ℕ) (r : State) (m′ : List ℕ) : Type 0 where
-  pub state : r ≡ withSpans s (markAll (s .spans) (imageStrokes v s column row b))
-  pub mem : m′ ≡ applyAll g m (imageStrokes v s column row b)
+-- one image byte in a pen's range: its strokes grow the spans and move the memory
+pub record Pictured (g : Geometry) (p : Pen) (y : Style) (column row b : ℕ) (m : List ℕ) (r : List Span) (m′ : List ℕ) : Type 0 where
+  pub spans : r ≡ markAll (p .spans) (imageStrokes (p .view) y column row b)
+  pub mem : m′ ≡ applyAll g m (imageStrokes (p .view) y column row b)
