@@ -1,5 +1,6 @@
-/* Writes scripts (docs/SCRIPTS.md) by chance: `generate SEED COUNT` writes
- * COUNT streams to standard output. The same seed writes the same script
+/* Writes scripts (docs/SCRIPTS.md) by chance: `generate SEED COUNT`
+ * writes COUNT streams to standard output, and `generate SEED COUNT PART`
+ * streams with a PARTth of the bytes. The same seed writes the same script
  * everywhere: the chance is this file's own, and no list of arguments draws
  * twice from it, since C leaves the order of arguments open. */
 #include <stdbool.h>
@@ -33,6 +34,15 @@ static unsigned below(unsigned n)
 static unsigned between(unsigned least, unsigned most)
 {
     return least + below(most - least + 1);
+}
+
+/* How much of something a stream has: a PARTth of it, but some. */
+static unsigned part = 1;
+
+static unsigned amount(unsigned least, unsigned most)
+{
+    unsigned n = between(least, most) / part;
+    return n > 0 ? n : 1;
 }
 
 /* true once in n times */
@@ -662,7 +672,7 @@ static void damage(void)
 static void put_noise(void)
 {
     bool even = once_in(3);
-    for (unsigned n = between(20, 90); n > 0; n--) {
+    for (unsigned n = amount(20, 90); n > 0; n--) {
         unsigned kind = even ? 0 : below(8);
         if (kind < 2)
             put(below(256));
@@ -812,7 +822,7 @@ static void write_closing(void)
 
 static void stream_well_formed(void)
 {
-    put_well_formed(between(25, 110));
+    put_well_formed(amount(25, 110));
     write_cut(0, 8);
 }
 
@@ -822,7 +832,7 @@ static void stream_held(void)
     for (unsigned i = between(1, 3); i > 0; i--)
         put_define();
     write_piece(0, length, false);
-    for (unsigned round = between(2, 4); round > 0; round--) {
+    for (unsigned round = amount(2, 4); round > 0; round--) {
         size_t at = length;
         write_hold();
         for (unsigned n = between(1, 5); n > 0; n--)
@@ -845,7 +855,7 @@ static void stream_held(void)
 
 static void stream_damaged(void)
 {
-    put_well_formed(between(25, 100));
+    put_well_formed(amount(25, 100));
     damage();
     write_cut(0, 6);
 }
@@ -858,7 +868,7 @@ static void stream_noise(void)
 
 static void stream_boundaries(void)
 {
-    for (unsigned n = between(4, 10); n > 0; n--) {
+    for (unsigned n = amount(4, 10); n > 0; n--) {
         size_t at = length;
         put_boundary();
         write_piece(at, length, !once_in(4));
@@ -901,7 +911,7 @@ static void write_each_call(void)
 
 static void stream_lengths(void)
 {
-    put_well_formed(between(10, 40));
+    put_well_formed(amount(10, 40));
     write_piece(0, length, false);
     for (unsigned n = between(1, 4); n > 0; n--) {
         unsigned memory_length = some_length(1024);
@@ -1165,9 +1175,9 @@ static void spoil_the_holding(void)
 
 static void stream_spoiled(void)
 {
-    put_well_formed(between(5, 30));
+    put_well_formed(amount(5, 30));
     write_piece(0, length, false);
-    for (unsigned n = between(2, 5); n > 0; n--)
+    for (unsigned n = amount(2, 5); n > 0; n--)
         switch (below(8)) {
         case 0:
             spoil_a_setting();
@@ -1218,8 +1228,8 @@ static void stream(void)
 int main(int argc, char **argv)
 {
     char *end;
-    if (argc != 3) {
-        fputs("usage: generate SEED COUNT\n", stderr);
+    if (argc != 3 && argc != 4) {
+        fputs("usage: generate SEED COUNT [PART]\n", stderr);
         return 2;
     }
     uint64_t seed = strtoull(argv[1], &end, 10);
@@ -1232,8 +1242,15 @@ int main(int argc, char **argv)
         fputs("generate: COUNT is not a number\n", stderr);
         return 2;
     }
+    if (argc == 4) {
+        part = (unsigned)strtoul(argv[3], &end, 10);
+        if (end == argv[3] || *end != 0 || part == 0) {
+            fputs("generate: PART is not a number from 1\n", stderr);
+            return 2;
+        }
+    }
     chance = seed;
-    printf("# generate %s %s\n", argv[1], argv[2]);
+    printf("# generate %s %s%s%s\n", argv[1], argv[2], argc == 4 ? " " : "", argc == 4 ? argv[3] : "");
     for (unsigned long i = 0; i < count; i++)
         stream();
     return fflush(stdout) == 0 ? 0 : 1;
