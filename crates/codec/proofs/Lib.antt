@@ -1,0 +1,4 @@
+pub mod Laid
+pub mod Same
+pub mod Stands
+pub mod Back
