@@ -25,7 +25,8 @@ use Rattle.kept.proofs.Tests.{by-cond}
 use Rattle.slots.specs.declared.Slots.{Slots}
 use Rattle.slots.specs.Slots.{slots, halfSlots}
 use Rattle.slots.proofs.Back.{half-back}
-use Rattle.codec.specs.Bytes.{low, high, settingsBytes, windowsBytes, baseBytes, holdBytes, spansBytes, tailBytes, encoded, settingsAt, cursorAt, windowFrom, spanAt, holdAt, slotsAt, decoded, same, broken, stateOf}
+use Rattle.encoder.specs.Bytes.{low, high, windowsBytes, holdBytes, tailBytes, encoded}
+use Rattle.codec.specs.Record.{settingsAt, cursorAt, windowFrom, spanAt, holdAt, slotsAt, decoded, same, broken, stateOf}
 use Rattle.codec.proofs.Same.{same-self, same-eq}
 
 -- ---- the parts
@@ -113,12 +114,12 @@ module _ (v : Settings) (ws : List Window) (k : Cursor) (n : ℕ) (p : Half) (ps
   tail-slots (Held a b u) = slots-back (halfSlots p)
 
   upper-back : (h : Hold) → spanAt (encoded (state v ws k n h p ps)) 95 ≡ getD ps 0 noSpan
-  unfolding encoded windowsBytes tailBytes holdBytes spansBytes spanAt
+  unfolding encoded windowsBytes tailBytes holdBytes spanAt
   upper-back Free = span-back (getD ps 0 noSpan)
   upper-back (Held a b u) = span-back (getD ps 0 noSpan)
 
   lower-back : (h : Hold) → spanAt (encoded (state v ws k n h p ps)) 99 ≡ getD ps 1 noSpan
-  unfolding encoded windowsBytes tailBytes holdBytes spansBytes spanAt
+  unfolding encoded windowsBytes tailBytes holdBytes spanAt
   lower-back Free = span-back (getD ps 1 noSpan)
   lower-back (Held a b u) = span-back (getD ps 1 noSpan)
 

@@ -1,4 +1,3 @@
-pub mod Laid
 pub mod Same
 pub mod Stands
 pub mod Back

@@ -10,7 +10,7 @@ use native.Mathlib.Omega.{arith}
 use native.Mathlib.Numerals.{add-one}
 use borrow.Author.Tests.{eq-eqb, eqb-true}
 use Rattle.laws.proofs.Tests.{both-of}
-use Rattle.codec.specs.Bytes.{same}
+use Rattle.codec.specs.Record.{same}
 
 -- one more byte of each
 pub same-more : (a b : List ℕ) (i : ℕ) → i < length a → i < length b

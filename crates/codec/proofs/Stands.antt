@@ -4,7 +4,8 @@ use mathlib.Core.Path.{_≡_, ap}
 use mathlib.Core.Bool.{Bool, true, false}
 use mathlib.Core.List.{List}
 use Rattle.paper.specs.declared.State.{State}
-use Rattle.codec.specs.Bytes.{encoded, decoded, same, broken, stateOf}
+use Rattle.encoder.specs.Bytes.{encoded}
+use Rattle.codec.specs.Record.{decoded, same, broken, stateOf}
 
 module _ (l : List ℕ) {again : List ℕ} {s : State} {t : Bool} (d : s ≡ decoded l) (e : again ≡ encoded s) (f : t ≡ same again l) where
   -- the bytes of its state are the record's

@@ -1,6 +1,6 @@
 -- `cursor_at` meets its contract. Assumes nothing.
 use borrow.Author.Needs.{needs}
-use Rattle.codec.specs.Bytes.{cursorAt}
+use Rattle.codec.specs.Record.{cursorAt}
 use Rattle.codec.proofs.cursor_at.Statement.{statement}
 use Rattle.codec.proofs.cursor_at.Tie as tie
 

@@ -1,7 +1,7 @@
 -- `decode` meets its contract. Assumes nothing.
 use borrow.Author.Needs.{needs}
 use native.Mathlib.Omega.{arith}
-use Rattle.codec.specs.Bytes.{decoded}
+use Rattle.codec.specs.Record.{decoded}
 use Rattle.codec.proofs.decode.Statement.{statement}
 use Rattle.codec.proofs.decode.Tie as tie
 

@@ -1,7 +1,7 @@
 -- `hold_at` meets its contract: an arm for a window that is held, and one for none. Assumes nothing.
 use borrow.Author.Needs.{needs}
 use borrow.Author.Tests.{eq-eqb, ne-eqb}
-use Rattle.codec.specs.Bytes.{holdAt}
+use Rattle.codec.specs.Record.{holdAt}
 use Rattle.codec.proofs.hold_at.Statement.{statement}
 use Rattle.codec.proofs.hold_at.Tie as tie
 

@@ -4,7 +4,7 @@ use mathlib.Core.Path.{_≡_, refl}
 use lib.ListN.{length, take}
 use native.Mathlib.Omega.{arith}
 use denote.Ref.{now}
-use Rattle.codec.specs.Bytes.{same}
+use Rattle.codec.specs.Record.{same}
 use Rattle.codec.proofs.Same.{same-next, same-all}
 use Rattle.codec.proofs.is_same.Statement.{statement}
 use Rattle.codec.proofs.is_same.Tie as tie

@@ -1,6 +1,6 @@
 -- `slots_at` meets its contract. Assumes nothing.
 use borrow.Author.Needs.{needs}
-use Rattle.codec.specs.Bytes.{slotsAt}
+use Rattle.codec.specs.Record.{slotsAt}
 use Rattle.codec.proofs.slots_at.Statement.{statement}
 use Rattle.codec.proofs.slots_at.Tie as tie
 

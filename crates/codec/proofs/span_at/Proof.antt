@@ -1,6 +1,6 @@
 -- `span_at` meets its contract. Assumes nothing.
 use borrow.Author.Needs.{needs}
-use Rattle.codec.specs.Bytes.{spanAt}
+use Rattle.codec.specs.Record.{spanAt}
 use Rattle.codec.proofs.span_at.Statement.{statement}
 use Rattle.codec.proofs.span_at.Tie as tie
 

@@ -1,6 +1,6 @@
 -- `window_from` meets its contract. Assumes nothing.
 use borrow.Author.Needs.{needs}
-use Rattle.codec.specs.Bytes.{windowFrom}
+use Rattle.codec.specs.Record.{windowFrom}
 use Rattle.codec.proofs.window_from.Statement.{statement}
 use Rattle.codec.proofs.window_from.Tie as tie
 

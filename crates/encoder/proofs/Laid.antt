@@ -10,8 +10,8 @@ use native.Mathlib.Numerals.{add-one}
 use Rattle.paper.specs.declared.Hold.{Hold}
 use Rattle.paper.specs.declared.Hold.the-variants.{Free, Held}
 use Rattle.paper.specs.declared.State.{State}
-use Rattle.codec.specs.Bytes.{holdBytes, windowsBytes, tailBytes, encoded}
-use Rattle.codec.specs.Parts.{Put}
+use Rattle.encoder.specs.Bytes.{holdBytes, windowsBytes, tailBytes, encoded}
+use Rattle.encoder.specs.Parts.{Put}
 
 -- ---- a part, byte by byte
 

@@ -5,9 +5,9 @@ use mathlib.Core.List.{_++_}
 use lib.ListN.{length, take, length-set}
 use native.Mathlib.Omega.{arith}
 use denote.Ref.{now}
-use Rattle.codec.proofs.Laid.{nothing-copied, copied-more, copied}
-use Rattle.codec.proofs.put.Statement.{statement}
-use Rattle.codec.proofs.put.Tie as tie
+use Rattle.encoder.proofs.Laid.{nothing-copied, copied-more, copied}
+use Rattle.encoder.proofs.put.Statement.{statement}
+use Rattle.encoder.proofs.put.Tie as tie
 
 abbrev Inv-loop : tie.InvT-loop
 Inv-loop src to₀ at j₀ j-end to j =

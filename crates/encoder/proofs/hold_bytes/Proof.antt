@@ -1,7 +1,7 @@
 -- `hold_bytes` meets its contract: an arm for a window that is held, and one for none. Assumes nothing.
-use Rattle.codec.specs.Bytes.{holdBytes}
-use Rattle.codec.proofs.hold_bytes.Statement.{statement}
-use Rattle.codec.proofs.hold_bytes.Tie as tie
+use Rattle.encoder.specs.Bytes.{holdBytes}
+use Rattle.encoder.proofs.hold_bytes.Statement.{statement}
+use Rattle.encoder.proofs.hold_bytes.Tie as tie
 
 pub hold-bytes-spec : {M : Type 1} → statement M
 unfolding holdBytes
