@@ -155,6 +155,13 @@ module _ (s : State) where
 
 -- ---- the state that a record stands for
 
+-- whatever the bytes, it has four windows and two spans
+pub record-sized : (l : List ℕ) → Sized panel (stateOf l)
+unfolding stateOf decoded panel
+record-sized l =
+    by-cond (λ (s : State). Sized panel s) (same (encoded (decoded l)) l)
+    (λ _. record { windows = refl; spans = refl }) (λ _. record { windows = refl; spans = refl })
+
 -- a state's record stands for it
 pub read-back : (s : State) → Sized panel s → stateOf (encoded s) ≡ s
 unfolding stateOf
