@@ -1,10 +1,10 @@
 -- What was encoded decodes to the same state, and a record that stands for an accepted state is that state's encoding.
 -- Assumes nothing.
-use Prim.Native.Nat.{ℕ, _+_, _*_, _%_, _/_}
+use Prim.Native.Nat.{ℕ, _+_, _*_}
 use native.Mathlib.Nat.{div-add-mod'}
 use native.Mathlib.Omega.{arith}
-use mathlib.Core.Path.{_≡_, refl, sym, ap, _∙_}
-use mathlib.Core.List.{List, [], _∷_, _++_}
+use mathlib.Core.Path.{_≡_, refl, sym, _∙_}
+use mathlib.Core.List.{List, [], _∷_}
 use mathlib.Core.Bool.{Bool, true, false, and-false, true≢false}
 use lib.ListN.{length, getD}
 use Rattle.paper.specs.declared.Geometry.{Geometry}
@@ -31,24 +31,28 @@ use Rattle.codec.proofs.Same.{same-self, same-eq}
 
 -- ---- the parts
 
-word-back : (n : ℕ) → low n + 256 * high n ≡ n
+-- a 16-bit number of its two bytes
+abbrev word : ℕ → ℕ
+word n = low n + 256 * high n
+
+word-back : (n : ℕ) → word n ≡ n
 word-back n = omega (arith, div-add-mod' n 256)
 
 cursor-back : (k : Cursor)
-    → record { x = low (k .x) + 256 * high (k .x); y = low (k .y) + 256 * high (k .y); mode = k .mode } ≡ k
+    → record { x = word (k .x); y = word (k .y); mode = k .mode } ≡ k
 cursor-back k = rw (word-back (k .x), word-back (k .y))
 
 window-back : (w : Window)
     → record {
-      left = low (w .left) + 256 * high (w .left);
-      top = low (w .top) + 256 * high (w .top);
-      width = low (w .width) + 256 * high (w .width);
-      height = low (w .height) + 256 * high (w .height);
-      cursor = record { x = low (w .cursor .x) + 256 * high (w .cursor .x); y = low (w .cursor .y) + 256 * high (w .cursor .y); mode = w .cursor .mode };
+      left = word (w .left);
+      top = word (w .top);
+      width = word (w .width);
+      height = word (w .height);
+      cursor = record { x = word (w .cursor .x); y = word (w .cursor .y); mode = w .cursor .mode };
     } ≡ w
 window-back w = rw (word-back (w .left), word-back (w .top), word-back (w .width), word-back (w .height), cursor-back (w .cursor))
 
-span-back : (p : Span) → record { first = low (p .first) + 256 * high (p .first); end = low (p .end) + 256 * high (p .end) } ≡ p
+span-back : (p : Span) → record { first = word (p .first); end = word (p .end) } ≡ p
 span-back p = rw (word-back (p .first), word-back (p .end))
 
 four : (ws : List Window) → length ws ≡ 4 → windowAt ws 1 ∷ windowAt ws 2 ∷ windowAt ws 3 ∷ windowAt ws 4 ∷ [] ≡ ws
@@ -66,11 +70,7 @@ two (a ∷ b ∷ []) e = refl
 two (a ∷ b ∷ c ∷ ps) e = absurd (omega arith)
 
 slots-back : (t : Slots)
-    → slots (t .case) (t .a) (t .b) (t .c)
-    (low (t .p) + 256 * high (t .p))
-    (low (t .q) + 256 * high (t .q))
-    (low (t .r) + 256 * high (t .r))
-    (low (t .s) + 256 * high (t .s)) ≡ t
+    → slots (t .case) (t .a) (t .b) (t .c) (word (t .p)) (word (t .q)) (word (t .r)) (word (t .s)) ≡ t
 slots-back t = rw (word-back (t .p), word-back (t .q), word-back (t .r), word-back (t .s))
 
 -- ---- the record

@@ -1,7 +1,7 @@
 -- A record's parts, put one after the other, are the record. Assumes nothing.
 use Prim.Native.Nat.{ℕ, suc, _+_, _<_, _≤_}
 use mathlib.Core.Path.{_≡_, refl, sym, ap, _∙_}
-use mathlib.Core.List.{List, [], _∷_, _++_, append-assoc, append-nil}
+use mathlib.Core.List.{List, [], _++_, append-assoc, append-nil}
 use lib.ListN.{length, getD, set, take, length-append}
 use lib.Seq.{take-all, take-suc, take-suc-set}
 use native.Mathlib.Omega.{arith}

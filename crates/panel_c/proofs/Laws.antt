@@ -21,7 +21,7 @@ use Rattle.kept.proofs.Tests.{by-cond}
 use Rattle.encoder.specs.Bytes.{recordLength, encoded}
 use Rattle.codec.specs.Record.{stateOf}
 use Rattle.codec.proofs.Back.{record-sized, read-back, other-bytes}
-use Rattle.panel_c.specs.Face.{recordAfter, starting, startC, fed, feeding, feedC, calling, holdC, releaseC, moved, refreshing, refreshC}
+use Rattle.panel_c.specs.Face.{recordAfter, startC, fed, feeding, feedC, calling, holdC, releaseC, moved, refreshing, refreshC}
 
 -- ---- other bytes are answered 8
 

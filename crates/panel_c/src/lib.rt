@@ -10,6 +10,11 @@ ghost use Rattle.paper.specs.Numbers.{refusalNumber, outcomeNumber};
 ghost use Rattle.encoder.specs.Bytes.{recordLength};
 ghost use Rattle.panel_c.specs.Face.{recordAfter, starting, startC, feeding, feedC, calling, holdC, releaseC, refreshing, refreshC};
 
+// The length of a record, and the answer to a record of another length: no number of document 01.
+const RECORD: usize = 103;
+
+const WRONG_LENGTH: u32 = 100;
+
 // What a feed answers: its number, what the last byte came to, commands carried out, commands answered 11 to 17.
 #[repr(C)]
 pub struct PanelFed {
@@ -79,8 +84,8 @@ fn keep(answer: u32, s: State, to: &mut [u8])
 pub extern "C" fn panel_start(state: &mut [u8], mem: &mut [u8]) -> u32
     ensures { λ r. ⌜ starting r (now (state .exit)) (now (mem .exit)) ≡ startC (now (state .entry)) (now (mem .entry)) ⌝ }
 {
-    if state.len() != 103 {
-        return 100;
+    if state.len() != RECORD {
+        return WRONG_LENGTH;
     }
     let a = panel::start(mem);
     let s = a.state;
@@ -99,9 +104,9 @@ pub extern "C" fn panel_feed(
 ) -> PanelFed
     ensures { λ r. ⌜ feeding r (now (state .exit)) (now (mem .exit)) ≡ feedC (now (state .entry)) (now (mem .entry)) (now (font .entry)) (now (piece .entry)) ⌝ }
 {
-    if state.len() != 103 {
+    if state.len() != RECORD {
         return PanelFed {
-            answer: 100,
+            answer: WRONG_LENGTH,
             outcome: 9,
             carried: 0,
             answered: 0,
@@ -109,11 +114,11 @@ pub extern "C" fn panel_feed(
     }
     let s = codec::state_of(state);
     let f = panel::feed(mem, font, piece, s);
-    let after = f.state;
+    let fed = f.state;
     let refusal = f.refusal;
     let outcome = f.outcome;
     let answer = refusal_number(refusal);
-    keep(answer, after, state);
+    keep(answer, fed, state);
     PanelFed {
         answer,
         outcome: outcome_number(outcome),
@@ -127,15 +132,15 @@ pub extern "C" fn panel_feed(
 pub extern "C" fn panel_hold(state: &mut [u8], window: usize) -> u32
     ensures { λ r. ⌜ calling r (now (state .exit)) ≡ holdC (now (state .entry)) window ⌝ }
 {
-    if state.len() != 103 {
-        return 100;
+    if state.len() != RECORD {
+        return WRONG_LENGTH;
     }
     let s = codec::state_of(state);
     let a = panel::hold(s, window);
-    let after = a.state;
+    let held = a.state;
     let refusal = a.refusal;
     let answer = refusal_number(refusal);
-    keep(answer, after, state);
+    keep(answer, held, state);
     answer
 }
 
@@ -144,15 +149,15 @@ pub extern "C" fn panel_hold(state: &mut [u8], window: usize) -> u32
 pub extern "C" fn panel_release(state: &mut [u8]) -> u32
     ensures { λ r. ⌜ calling r (now (state .exit)) ≡ releaseC (now (state .entry)) ⌝ }
 {
-    if state.len() != 103 {
-        return 100;
+    if state.len() != RECORD {
+        return WRONG_LENGTH;
     }
     let s = codec::state_of(state);
     let a = panel::release(s);
-    let after = a.state;
+    let released = a.state;
     let refusal = a.refusal;
     let answer = refusal_number(refusal);
-    keep(answer, after, state);
+    keep(answer, released, state);
     answer
 }
 
@@ -161,18 +166,18 @@ pub extern "C" fn panel_release(state: &mut [u8]) -> u32
 pub extern "C" fn panel_refresh(state: &mut [u8], mem: &[u8], glass: &mut [u8]) -> PanelRefreshed
     ensures { λ r. ⌜ refreshing r (now (state .exit)) (now (glass .exit)) ≡ refreshC (now (state .entry)) (now (mem .entry)) (now (glass .entry)) ⌝ }
 {
-    if state.len() != 103 {
+    if state.len() != RECORD {
         return PanelRefreshed {
-            answer: 100,
+            answer: WRONG_LENGTH,
             moved: 0,
         };
     }
     let s = codec::state_of(state);
     let r = panel::refresh(mem, glass, s);
-    let after = r.state;
+    let emptied = r.state;
     let refusal = r.refusal;
     let answer = refusal_number(refusal);
-    keep(answer, after, state);
+    keep(answer, emptied, state);
     PanelRefreshed {
         answer,
         moved: r.moved,

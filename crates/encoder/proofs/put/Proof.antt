@@ -1,6 +1,6 @@
 -- `put` meets its contract: the record begins as it did, and then has what is copied so far. Assumes nothing.
 use Prim.Native.Nat.{_+_, _-_, _≤_}
-use mathlib.Core.Path.{_≡_, refl, _∙_}
+use mathlib.Core.Path.{_≡_, refl}
 use mathlib.Core.List.{_++_}
 use lib.ListN.{length, take, length-set}
 use native.Mathlib.Omega.{arith}
@@ -41,7 +41,9 @@ loop-again c =
       omega arith,
       (
         simp length-set (l .inv .1 .0),
-        copied-more (now (start .args .to)) (l .to) (now (start .args .src)) (start .args .at) (l .j) (omega arith) (omega arith) (l .inv .1 .1),
+        copied-more (now (start .args .to)) (l .to) (now (start .args .src)) (start .args .at) (l .j) (omega arith)
+            (omega arith)
+            (l .inv .1 .1),
       ),
     )
 
@@ -52,7 +54,9 @@ returns : tie.Need-returns Inv-loop μ-loop
 returns c =
     let start = c .before .before in
     let l = c .before .loop in
-    copied (now (start .args .to)) (l .to) (now (start .args .src)) (start .args .at) (l .j) (omega arith) (omega arith) (l .inv .1 .1)
+    copied (now (start .args .to)) (l .to) (now (start .args .src)) (start .args .at) (l .j) (omega arith)
+    (omega arith)
+    (l .inv .1 .1)
 
 pub put-spec : {M : Type 1} → statement M
 put-spec =

@@ -15,7 +15,13 @@ put-requires-4 c κs =
     let half = c .before .before .before .before .before in
     let hold = half .before .before .before .before .before .before .before in
     let base = hold .before .before .before .before .before .before in
-    omega (arith, half .put3 .kept .1 .0, hold .put2 .kept .1 .0, base .put .kept .1 .0, base .before .before .before .before .before .before .before .pre)
+    omega (
+      arith,
+      half .put3 .kept .1 .0,
+      hold .put2 .kept .1 .0,
+      base .put .kept .1 .0,
+      base .before .before .before .before .before .before .before .pre,
+    )
 
 returns : tie.Need-returns
 unfolding tailBytes
@@ -24,11 +30,12 @@ returns c =
     let half = spans .before .before .before .before .before .before in
     let hold = half .before .before .before .before .before .before .before in
     let base = hold .before .before .before .before .before .before in
+    let flat = half .before .before .before in
+    let slots = flat .slot-bytes .ensures ∙ ap slotBytes (flat .before .half-slots .ensures) in
     after refl (known (base .before .before .before .base-bytes .ensures) (base .put .ensures))
     (after (ap (λ (n : ℕ). 69 + n) (hold-length _))
     (known (hold .before .before .before .hold-bytes .ensures) (hold .put2 .ensures))
-    (after refl
-    (known (half .before .before .before .slot-bytes .ensures ∙ ap slotBytes (half .before .before .before .before .half-slots .ensures)) (half .put3 .ensures))
+    (after refl (known slots (half .put3 .ensures))
     (known (spans .before .before .before .spans-bytes .ensures) (spans .put4 .ensures))))
 
 pub put-tail-spec : {M : Type 1} → statement M

@@ -1,4 +1,4 @@
--- `half_of` meets its contract: an arm for each number. Assumes nothing.
+-- `half_of` meets its contract: an arm for each number, and one for the rest. Assumes nothing.
 use borrow.Author.Tests.{ne-eqb}
 use Rattle.slots.specs.Slots.{halfOf}
 use Rattle.slots.proofs.half_of.Statement.{statement}
@@ -36,4 +36,31 @@ half-of-spec =
     (λ c. rw (c .match .keys21))
     (λ c. rw (c .match .keys22))
     (λ c. rw (c .match .keys23))
-    (λ c. let e = c .match .rest in let f = e .0 .0 .0 .0 .0 .0 .0 .0 in let g = f .0 .0 .0 .0 .0 .0 .0 .0 in rw (ne-eqb _ _ (g .0 .0 .0 .0 .0 .0 .1), ne-eqb _ _ (g .0 .0 .0 .0 .0 .1), ne-eqb _ _ (g .0 .0 .0 .0 .1), ne-eqb _ _ (g .0 .0 .0 .1), ne-eqb _ _ (g .0 .0 .1), ne-eqb _ _ (g .0 .1), ne-eqb _ _ (g .1), ne-eqb _ _ (f .0 .0 .0 .0 .0 .0 .0 .1), ne-eqb _ _ (f .0 .0 .0 .0 .0 .0 .1), ne-eqb _ _ (f .0 .0 .0 .0 .0 .1), ne-eqb _ _ (f .0 .0 .0 .0 .1), ne-eqb _ _ (f .0 .0 .0 .1), ne-eqb _ _ (f .0 .0 .1), ne-eqb _ _ (f .0 .1), ne-eqb _ _ (f .1), ne-eqb _ _ (e .0 .0 .0 .0 .0 .0 .0 .1), ne-eqb _ _ (e .0 .0 .0 .0 .0 .0 .1), ne-eqb _ _ (e .0 .0 .0 .0 .0 .1), ne-eqb _ _ (e .0 .0 .0 .0 .1), ne-eqb _ _ (e .0 .0 .0 .1), ne-eqb _ _ (e .0 .0 .1), ne-eqb _ _ (e .0 .1), ne-eqb _ _ (e .1))))
+    -- a number of no case is none of theirs
+    (λ c. let e = c .match .rest in
+    let f = e .0 .0 .0 .0 .0 .0 .0 .0 in
+    let g = f .0 .0 .0 .0 .0 .0 .0 .0 in rw (
+      ne-eqb _ _ (g .0 .0 .0 .0 .0 .0 .1),
+      ne-eqb _ _ (g .0 .0 .0 .0 .0 .1),
+      ne-eqb _ _ (g .0 .0 .0 .0 .1),
+      ne-eqb _ _ (g .0 .0 .0 .1),
+      ne-eqb _ _ (g .0 .0 .1),
+      ne-eqb _ _ (g .0 .1),
+      ne-eqb _ _ (g .1),
+      ne-eqb _ _ (f .0 .0 .0 .0 .0 .0 .0 .1),
+      ne-eqb _ _ (f .0 .0 .0 .0 .0 .0 .1),
+      ne-eqb _ _ (f .0 .0 .0 .0 .0 .1),
+      ne-eqb _ _ (f .0 .0 .0 .0 .1),
+      ne-eqb _ _ (f .0 .0 .0 .1),
+      ne-eqb _ _ (f .0 .0 .1),
+      ne-eqb _ _ (f .0 .1),
+      ne-eqb _ _ (f .1),
+      ne-eqb _ _ (e .0 .0 .0 .0 .0 .0 .0 .1),
+      ne-eqb _ _ (e .0 .0 .0 .0 .0 .0 .1),
+      ne-eqb _ _ (e .0 .0 .0 .0 .0 .1),
+      ne-eqb _ _ (e .0 .0 .0 .0 .1),
+      ne-eqb _ _ (e .0 .0 .0 .1),
+      ne-eqb _ _ (e .0 .0 .1),
+      ne-eqb _ _ (e .0 .1),
+      ne-eqb _ _ (e .1),
+    )))

@@ -1,4 +1,4 @@
--- `key_of` meets its contract: an arm for each number. Assumes nothing.
+-- `key_of` meets its contract: an arm for each number, and one for the rest. Assumes nothing.
 use borrow.Author.Tests.{ne-eqb}
 use Rattle.slots.specs.Slots.{keyOf}
 use Rattle.slots.proofs.key_of.Statement.{statement}
@@ -9,7 +9,6 @@ unfolding keyOf
 key-of-spec =
     tie.close
     (tie.spec
-    -- what each arm gives
     (λ c. rw (c .match .keys1))
     (λ c. rw (c .match .keys2))
     (λ c. rw (c .match .keys3))
@@ -18,4 +17,14 @@ key-of-spec =
     (λ c. rw (c .match .keys6))
     (λ c. rw (c .match .keys7))
     (λ c. rw (c .match .keys8))
-    (λ c. let e = c .match .rest in rw (ne-eqb _ _ (e .0 .0 .0 .0 .0 .0 .0 .1), ne-eqb _ _ (e .0 .0 .0 .0 .0 .0 .1), ne-eqb _ _ (e .0 .0 .0 .0 .0 .1), ne-eqb _ _ (e .0 .0 .0 .0 .1), ne-eqb _ _ (e .0 .0 .0 .1), ne-eqb _ _ (e .0 .0 .1), ne-eqb _ _ (e .0 .1), ne-eqb _ _ (e .1))))
+    -- a number of no case is none of theirs
+    (λ c. let e = c .match .rest in rw (
+      ne-eqb _ _ (e .0 .0 .0 .0 .0 .0 .0 .1),
+      ne-eqb _ _ (e .0 .0 .0 .0 .0 .0 .1),
+      ne-eqb _ _ (e .0 .0 .0 .0 .0 .1),
+      ne-eqb _ _ (e .0 .0 .0 .0 .1),
+      ne-eqb _ _ (e .0 .0 .0 .1),
+      ne-eqb _ _ (e .0 .0 .1),
+      ne-eqb _ _ (e .0 .1),
+      ne-eqb _ _ (e .1),
+    )))
