@@ -2,11 +2,12 @@
  * The library keeps nothing between calls, allocates nothing, and never writes
  * outside what it is lent. It takes any bytes, any lengths and any state record.
  *
- * A pointer is valid for the length given with it; what one call may write (a
- * parameter without const) overlaps no other parameter of that call.
+ * A pointer is valid for the length given with it (with length 0 it may be null);
+ * what a call may write, a parameter without const, overlaps no other parameter.
  *
- * "Document 01" is the panel's paper; the numbers below are its numbers, and
- * docs/RECORD.md has the layout of the state record.
+ * Link: `rt staticlib panel_c` writes target/staticlib/libpanel_c.a (x86-64), and
+ * `cc yours.c target/staticlib/libpanel_c.a` needs no other library. examples/
+ * has a receiver. The numbers are document 01's; docs/RECORD.md has the record.
  */
 #ifndef PANEL_H
 #define PANEL_H
