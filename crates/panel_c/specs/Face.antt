@@ -1,0 +1,112 @@
+-- The five calls as C makes them: the state is a record of bytes, answers and outcomes are document 01's numbers. Each call is the
+-- paper's own on the state that the record stands for, so its refusals and their order are the paper's. Assumes nothing.
+use Prim.Native.Nat.{ℕ}
+use mathlib.Core.Bool.{cond}
+use mathlib.Core.List.{List}
+use lib.Dec.{eqb}
+use Rattle.paper.specs.declared.Answer.{Answer}
+use Rattle.paper.specs.declared.Fed.{Fed}
+use Rattle.paper.specs.declared.State.{State}
+use Rattle.paper.specs.Panel.{panel}
+use Rattle.paper.specs.Numbers.{refusalNumber, outcomeNumber}
+use Rattle.paper.specs.Calls.{isNot, Starting, startCall, Feeding, feedCall, holdCall, releaseCall, Refreshing, refreshCall}
+use Rattle.encoder.specs.Bytes.{recordLength, encoded}
+use Rattle.codec.specs.Record.{stateOf}
+use Rattle.panel_c.specs.declared.PanelFed.{PanelFed}
+use Rattle.panel_c.specs.declared.PanelRefreshed.{PanelRefreshed}
+
+-- a record of another length: no number of document 01. It is tested first
+abbrev pub wrongLength : ℕ
+wrongLength = 100
+
+-- "nothing in the state changes" unless the answer is 0: the record that a call leaves
+unfoldable pub recordAfter : ℕ → State → List ℕ → List ℕ
+recordAfter n s l = cond (eqb n 0) (encoded s) l
+
+-- ---- start
+
+-- what a start gave: its answer, the record and the memory
+pub record StartingC : Type 0 where
+  pub answer : ℕ
+  pub state : List ℕ
+  pub mem : List ℕ
+
+abbrev pub starting : ℕ → List ℕ → List ℕ → StartingC
+starting n l m = record { answer = n; state = l; mem = m }
+
+-- "Start takes no state; refused, it gives the initial state with both spans empty."
+abbrev pub startingC : Starting → StartingC
+startingC c = starting (refusalNumber (c .answer .refusal)) (encoded (c .answer .state)) (c .mem)
+
+unfoldable pub startC : List ℕ → List ℕ → StartingC
+startC l m = cond (isNot recordLength l) (starting wrongLength l m) (startingC (startCall panel m))
+
+-- ---- feed
+
+-- what a feed gave: its answer, the record and the memory
+pub record FeedingC : Type 0 where
+  pub answer : PanelFed
+  pub state : List ℕ
+  pub mem : List ℕ
+
+abbrev pub feeding : PanelFed → List ℕ → List ℕ → FeedingC
+feeding a l m = record { answer = a; state = l; mem = m }
+
+abbrev pub fed : ℕ → ℕ → ℕ → ℕ → PanelFed
+fed n o c a = record { answer = n; outcome = o; carried = c; answered = a }
+
+abbrev pub fedC : Fed → PanelFed
+fedC f = fed (refusalNumber (f .refusal)) (outcomeNumber (f .outcome)) (f .carried) (f .answered)
+
+abbrev pub feedingC : List ℕ → Feeding → FeedingC
+feedingC l f =
+    feeding (fedC (f .answer)) (recordAfter (refusalNumber (f .answer .refusal)) (f .answer .state) l) (f .mem)
+
+-- "9 .. when the call is refused"; "every count given back is 0"
+unfoldable pub feedC : List ℕ → List ℕ → List ℕ → List ℕ → FeedingC
+feedC l m font piece =
+    cond (isNot recordLength l) (feeding (fed wrongLength 9 0 0) l m) (feedingC l (feedCall panel font (stateOf l) m piece))
+
+-- ---- hold and release
+
+-- what a hold or a release gave: its answer and the record
+pub record CallingC : Type 0 where
+  pub answer : ℕ
+  pub state : List ℕ
+
+abbrev pub calling : ℕ → List ℕ → CallingC
+calling n l = record { answer = n; state = l }
+
+abbrev pub callingC : List ℕ → Answer → CallingC
+callingC l a = calling (refusalNumber (a .refusal)) (recordAfter (refusalNumber (a .refusal)) (a .state) l)
+
+unfoldable pub holdC : List ℕ → ℕ → CallingC
+holdC l k = cond (isNot recordLength l) (calling wrongLength l) (callingC l (holdCall panel (stateOf l) k))
+
+unfoldable pub releaseC : List ℕ → CallingC
+releaseC l = cond (isNot recordLength l) (calling wrongLength l) (callingC l (releaseCall panel (stateOf l)))
+
+-- ---- refresh
+
+-- what a refresh gave: its answer, the record and the glass
+pub record RefreshingC : Type 0 where
+  pub answer : PanelRefreshed
+  pub state : List ℕ
+  pub glass : List ℕ
+
+abbrev pub refreshing : PanelRefreshed → List ℕ → List ℕ → RefreshingC
+refreshing a l glass = record { answer = a; state = l; glass = glass }
+
+abbrev pub moved : ℕ → ℕ → PanelRefreshed
+moved n k = record { answer = n; moved = k }
+
+abbrev pub refreshingC : List ℕ → Refreshing → RefreshingC
+refreshingC l r =
+    refreshing (moved (refusalNumber (r .answer .refusal)) (r .answer .moved))
+    (recordAfter (refusalNumber (r .answer .refusal)) (r .answer .state) l)
+    (r .glass)
+
+unfoldable pub refreshC : List ℕ → List ℕ → List ℕ → RefreshingC
+refreshC l m glass =
+    cond (isNot recordLength l) (refreshing (moved wrongLength 0) l glass)
+    (refreshingC l (refreshCall panel (stateOf l) m glass))
