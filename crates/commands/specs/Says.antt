@@ -1,6 +1,6 @@
 -- What a command that writes nothing owes. Assumes nothing.
 use mathlib.Core.Path.{_≡_}
-use mathlib.Core.List.{List, []}
+use mathlib.Core.List.{[]}
 use Rattle.paper.specs.declared.Outcome.{Outcome}
 use Rattle.paper.specs.declared.State.{State}
 use Rattle.paper.specs.Carry.{Meaning}

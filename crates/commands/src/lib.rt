@@ -12,7 +12,7 @@ use paper::View;
 ghost use mathlib.Core.Path.{_≡_};
 ghost use mathlib.Core.Bool.{true};
 ghost use mathlib.Core.List.{List};
-ghost use Prim.Native.Nat.{ℕ, _+_, _≤_, _<_};
+ghost use Prim.Native.Nat.{ℕ, _≤_, _<_};
 ghost use Rattle.paper.specs.Cells.{cellWidth, cellHeight, tooLarge};
 ghost use Rattle.paper.specs.Bounds.{accepted};
 ghost use Rattle.paper.specs.Carry.{isHeld, commandOf};

@@ -20,7 +20,7 @@ use Rattle.kept.specs.Sized.{Sized}
 use Rattle.kept.proofs.Views.{panel-usable}
 use Rattle.kept.proofs.Sized.{initial-sized}
 use Rattle.kept.proofs.Refusals.{feed-taken}
-use Rattle.stroke_laws.specs.Kept.{Synced}
+use Rattle.stroke_laws.specs.Synced.{Synced}
 use Rattle.stroke_laws.proofs.Glass.{erased-synced}
 use Rattle.demands.specs.Events.{Event, refresh, joined, play}
 use Rattle.demands.specs.Demands.{StartAnswers, FeedAnswers, holdNumber, HoldAnswers, ReleaseAnswers, RefreshAnswers, ByteFed, ByteAnswers, OnlyAnswered, PieceFed, InStep, Served}

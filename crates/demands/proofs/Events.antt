@@ -34,7 +34,7 @@ use Rattle.dots.proofs.Spans.{marks-append, marks-length}
 use Rattle.dots.proofs.Strokes.{apply-length}
 use Rattle.dots.proofs.Glass.{covered, covered-test, refreshed-length, refreshed-out, shown-most}
 use Rattle.dots.proofs.Tests.{not-both}
-use Rattle.stroke_laws.specs.Kept.{Synced}
+use Rattle.stroke_laws.specs.Synced.{Synced}
 use Rattle.stroke_laws.proofs.Glass.{strokes-synced, refreshed-shows, refreshed-synced}
 use Rattle.demands.specs.Events.{Event, piece, refresh, joined, Play, play, onwards, strokesOf, noSpans, spansSince, owed, visible}
 use Rattle.demands.specs.Demands.{holdNumber, InStep, Served}

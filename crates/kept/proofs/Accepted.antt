@@ -18,12 +18,12 @@ use Rattle.paper.specs.Settings.{initialStyle, initialSettings, topLeft, initia
 use Rattle.paper.specs.Bounds.{settingsOk, isBlank, windowOk, windowsOk, holdOk, spansOk, halfOk, accepted}
 use Rattle.paper.specs.Moves.{Moved}
 use Rattle.paper.specs.Carry.{moves, becomes, ownersOnly, outOfDomain, notDefined, cellExceeds, widthNow, heightNow, carriedOut, imageStrokes, byteMeans}
-use Rattle.paper.specs.Calls.{Feeding, next, run}
+use Rattle.paper.specs.Calls.{Feeding, next, run, settled}
 use Rattle.laws.specs.Readings.{commandOk}
 use Rattle.laws.proofs.Tests.{between-facts}
 use Rattle.kept.specs.Room.{Usable, AllIn, Kept}
 use Rattle.kept.specs.Parts.{Parts}
-use Rattle.kept.specs.After.{settled, Sound}
+use Rattle.kept.specs.After.{Sound}
 use Rattle.kept.proofs.Moves.{all-wider, home-kept, return-kept, clear-kept, image-inside, ht-kept, back-kept, feed-kept, character-kept}
 use Rattle.kept.proofs.Parts.{parts, whole, cursor-facts, cursor-true, picked-tests, fits-facts, selected-window}
 use Rattle.kept.proofs.Settings.{set-ok, enlarged-ok}

@@ -26,9 +26,8 @@ use Rattle.paper.specs.Settings.{noWindow, withHalf, windowAt, withCursor, atCu
 use Rattle.paper.specs.Bounds.{holdOk, halfOk, accepted}
 use Rattle.paper.specs.Moves.{Moved}
 use Rattle.paper.specs.Carry.{Meaning, moves, becomes, isHeld, ownersOnly, cellExceeds, widthNow, heightNow, carriedOut, imageStrokes, byteMeans}
-use Rattle.paper.specs.Calls.{isAccepted, feedRefusal, Feeding, next, run, fedNothing, feedCall}
+use Rattle.paper.specs.Calls.{isAccepted, feedRefusal, Feeding, next, run, fedNothing, feedCall, settled}
 use Rattle.kept.specs.Room.{Usable, AllIn, Kept}
-use Rattle.kept.specs.After.{settled}
 use Rattle.kept.specs.Guest.{Holding, Guest, OnlyInside}
 use Rattle.kept.proofs.Tests.{by-cond}
 use Rattle.kept.proofs.Moves.{home-kept, return-kept, clear-kept, image-inside, ht-kept, back-kept, feed-kept, character-kept}
@@ -38,7 +37,7 @@ use Rattle.kept.proofs.Views.{view-place, view-room, view-window}
 use Rattle.kept.proofs.Cases.{Allowed, by-byte}
 use Rattle.kept.proofs.Accepted.{accepted-kept}
 use Rattle.kept.proofs.Refusals.{feed-given}
-use Rattle.kept.proofs.Outside.{outside-same}
+use Rattle.kept.proofs.Outside.{isolated}
 
 -- a number of a window that its replacement has too stays at its place
 field-set : (f : Window → ℕ) (ws : List Window) (i : ℕ) (w d : Window) → f w ≡ f (getD ws i d)
@@ -271,8 +270,8 @@ module _ (g : Geometry) (u : Usable g) (font : List ℕ) (k back : ℕ) (v : Set
       record {
         same = λ a out.
             run-outside (next g font f b) bs (byte-holding s i b) .same a (rw (q .left, q .top, q .width, q .height) out)
-            ∙ outside-same g (w .left) (w .top) (w .width) (w .height) (f .mem) (byteMeans g font s b .strokes)
-            (byte-inside s i b) a out;
+            ∙ isolated g (w .left) (w .top) (w .width) (w .height) a out (f .mem) (byteMeans g font s b .strokes)
+            (byte-inside s i b);
       }
 
   -- ---- a feed, refused or not

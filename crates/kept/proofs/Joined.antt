@@ -10,8 +10,7 @@ use Rattle.paper.specs.declared.State.{State}
 use Rattle.paper.specs.Strokes.{applyAll}
 use Rattle.paper.specs.Numbers.{carriedBy, answeredBy}
 use Rattle.paper.specs.Carry.{byteMeans}
-use Rattle.paper.specs.Calls.{Feeding, isAccepted, feedRefusal, next, run, fedNothing, feedCall}
-use Rattle.kept.specs.After.{settled}
+use Rattle.paper.specs.Calls.{Feeding, isAccepted, feedRefusal, next, run, fedNothing, feedCall, settled}
 use Rattle.kept.specs.Joined.{Joined}
 
 module _ (g : Geometry) (font : List ℕ) where

@@ -1,31 +1,20 @@
--- Spans under strokes: they stay in bounds, they only grow, and none comes or goes. Assumes nothing.
-use mathlib.Core.Path.{_≡_, refl, ap, _∙_}
-use mathlib.Core.Bool.{true, false, _&&_, or-true, and-false}
+-- Spans under strokes: they stay in bounds and only grow. Assumes nothing.
+use mathlib.Core.Path.{_≡_, refl}
+use mathlib.Core.Bool.{true, _&&_}
 use mathlib.Core.List.{List, [], _∷_}
-use Prim.Native.Nat.{ℕ, zero, suc, _+_, _<_, _≤_, min, max}
+use Prim.Native.Nat.{ℕ, zero, suc, _+_, min, max}
 use native.Mathlib.Omega.{arith}
 use lib.Dec.{leb, ltb}
-use lib.ListN.{length, getD, replicate}
+use lib.ListN.{getD, replicate}
 use borrow.Author.Tests.{leb-true, le-leb, ltb-true, lt-ltb, eqb-true}
 use Rattle.paper.specs.declared.Geometry.{Geometry}
 use Rattle.paper.specs.declared.Span.{Span}
-use Rattle.paper.specs.Strokes.{Stroke, among, noSpan, spanOf, isNothing, spanHolds, grown, grownBy, markFrom, marked, markAll}
+use Rattle.paper.specs.Strokes.{Stroke, among, noSpan, isNothing, spanHolds, grown, grownBy, markFrom, marked, markAll}
 use Rattle.paper.specs.Bounds.{spanOk, spansOk}
+use Rattle.dots.proofs.Spans.{marked-ok}
 use Rattle.laws.proofs.Tests.{both-of}
-use Rattle.kept.specs.Room.{Inside, AllIn}
+use Rattle.kept.specs.Room.{AllIn}
 use Rattle.kept.proofs.Tests.{by-cond}
-
--- ---- how many
-
--- a stroke leaves as many spans as there were
-length-from : (s : Stroke) (y : ℕ) (ps : List Span) → length (markFrom s y ps) ≡ length ps
-length-from s y [] = refl
-length-from s y (p ∷ ps) = ap suc (length-from s (suc y) ps)
-
--- and so do several
-pub length-marks : (ps : List Span) (ss : List Stroke) → length (markAll ps ss) ≡ length ps
-length-marks ps [] = refl
-length-marks ps (s ∷ ss) = length-marks (marked ps s) ss ∙ length-from s 0 ps
 
 -- ---- in bounds
 
@@ -36,51 +25,11 @@ module _ (g : Geometry) where
   empty-ok zero = refl
   empty-ok (suc n) = empty-ok n
 
-  -- a span that is not empty, of columns that the memory has
-  span-true : (first end : ℕ) → first < end → end ≤ g .columns → spanOk g (spanOf first end) ≡ true
-  unfolding spanOk
-  span-true first end l h = rw (lt-ltb first end l, le-leb end (g .columns) h, or-true)
-
-  -- what a span says that is not nothing
-  span-facts : (p : Span) → spanOk g p ≡ true → isNothing p ≡ false → (p .first < p .end) × (p .end ≤ g .columns)
-  unfolding spanOk
-  span-facts p h n =
-      let f = both-of (ltb (p .first) (p .end)) (leb (p .end) (g .columns)) (rw (n, and-false) at h) in
-      (ltb-true (p .first) (p .end) (f .0), leb-true (p .end) (g .columns) (f .1))
-
-  -- a span grown by columns of the memory
-  grown-ok : (p : Span) (first end : ℕ) → spanOk g p ≡ true → first < end → end ≤ g .columns
-      → spanOk g (grown p first end) ≡ true
-  unfolding grown
-  grown-ok p first end h l u =
-      by-cond (λ (q : Span). spanOk g q ≡ true) (isNothing p) (λ _. span-true first end l u)
-      (λ n. let f = span-facts p h n in span-true (min (p .first) first) (max (p .end) end) (omega arith) (omega arith))
-
-  -- a row's span after a stroke in memory
-  row-ok : (s : Stroke) → Inside 0 0 (g .columns) (g .rows) s → (y : ℕ) (p : Span) → spanOk g p ≡ true
-      → spanOk g (grownBy s y p) ≡ true
-  unfolding grownBy
-  row-ok s i y p h =
-      by-cond (λ (q : Span). spanOk g q ≡ true) (ltb 0 (s .width) && among (s .top) (s .height) y)
-      (λ e.
-      let f = both-of (ltb 0 (s .width)) _ e in
-      let w = ltb-true 0 (s .width) (f .0) in
-      grown-ok p (s .left) (s .left + s .width) h (omega arith) (omega arith))
-      (λ _. h)
-
-  -- every row's
-  rows-ok : (s : Stroke) → Inside 0 0 (g .columns) (g .rows) s → (y : ℕ) (ps : List Span) → spansOk g ps ≡ true
-      → spansOk g (markFrom s y ps) ≡ true
-  rows-ok s i y [] h = refl
-  rows-ok s i y (p ∷ ps) h =
-      let f = both-of (spanOk g p) (spansOk g ps) h in
-      rw (row-ok s i y p (f .0), rows-ok s i (suc y) ps (f .1))
-
   -- strokes in memory keep the spans in bounds
   pub marks-ok : (ps : List Span) (ss : List Stroke) → AllIn 0 0 (g .columns) (g .rows) ss → spansOk g ps ≡ true
       → spansOk g (markAll ps ss) ≡ true
   marks-ok ps [] i h = h
-  marks-ok ps (s ∷ ss) i h = marks-ok (marked ps s) ss (i .1) (rows-ok s (i .0) 0 ps h)
+  marks-ok ps (s ∷ ss) i h = marks-ok (marked ps s) ss (i .1) (marked-ok g s ps (let k = i .0 in omega arith) h)
 
 -- ---- growing
 

@@ -9,7 +9,6 @@ use borrow.Author.Tests.{leb-true, ltb-true}
 use Rattle.paper.specs.declared.Geometry.{Geometry}
 use Rattle.paper.specs.declared.Style.{Style}
 use Rattle.paper.specs.declared.View.{View}
-use Rattle.paper.specs.declared.State.{State}
 use Rattle.paper.specs.Strokes.{Rule, draw, wrapBlank, Stroke}
 use Rattle.paper.specs.Cells.{Dots, cellDot, allOff, cellWidth, cellHeight, cellStroke, drawStroke, blankStroke, upStroke, leftStroke}
 use Rattle.paper.specs.Moves.{Moved, only, writing, andThen, to, nextLine, nextLineUp, pushLeft, htOf, drawTab, blankTab, characterOf, backOf, lineDown, lineDownUp, lineFeedOf, homeOf, returnOf, clearOf}

@@ -19,11 +19,10 @@ use Rattle.paper.specs.Strokes.{noSpan}
 use Rattle.paper.specs.Settings.{initialState, withHalf, withSelected, noWindow, windowAt, defined, cancelled, withCursor, atCursor, inMode}
 use Rattle.paper.specs.Carry.{Meaning, carriedOut, byteMeans}
 use Rattle.paper.specs.Cells.{eraseStroke}
-use Rattle.paper.specs.Calls.{isAccepted, startRefusal, Starting, startCall, feedRefusal, Feeding, next, run, fedNothing, feedCall, holdRefusal, heldBy, holdCall, releaseRefusal, putBack, released, releaseCall, refreshRefusal, Refreshing, emptied, refreshCall}
-use Rattle.kept.specs.After.{settled}
+use Rattle.paper.specs.Calls.{isAccepted, startRefusal, Starting, startCall, feedRefusal, Feeding, next, run, fedNothing, feedCall, holdRefusal, heldBy, holdCall, releaseRefusal, putBack, released, releaseCall, refreshRefusal, Refreshing, emptied, refreshCall, settled}
 use Rattle.kept.specs.Sized.{Sized}
 use Rattle.kept.proofs.Tests.{by-cond}
-use Rattle.kept.proofs.Marks.{length-marks}
+use Rattle.dots.proofs.Spans.{marks-length}
 use Rattle.kept.proofs.Cases.{any-byte}
 
 -- state r has the spans of s, and four windows if s has
@@ -91,7 +90,7 @@ module _ (g : Geometry) (font : List ℕ) where
       let t = byteMeans g font s b in
       record {
         windows = byte-alike s b .windows (z .windows);
-        spans = length-marks (t .state .spans) (t .strokes) ∙ ap length (byte-spans s b) ∙ z .spans;
+        spans = marks-length (t .state .spans) (t .strokes) ∙ ap length (byte-spans s b) ∙ z .spans;
       }
 
   -- and so does a piece
@@ -115,7 +114,7 @@ module _ (g : Geometry) where
       let z = initial-sized in
       by-cond (λ (q : Starting). Sized g (q .answer .state)) (isAccepted (startRefusal g m))
       (λ _.
-      record { windows = z .windows; spans = length-marks (initialState g .spans) (eraseStroke g ∷ []) ∙ z .spans })
+      record { windows = z .windows; spans = marks-length (initialState g .spans) (eraseStroke g ∷ []) ∙ z .spans })
       (λ _. z)
 
   module _ (s : State) (z : Sized g s) where

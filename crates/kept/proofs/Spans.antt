@@ -9,8 +9,7 @@ use Rattle.paper.specs.declared.Refusal.the-variants.{Accepted}
 use Rattle.paper.specs.declared.State.{State}
 use Rattle.paper.specs.Strokes.{noSpan, spanHolds}
 use Rattle.paper.specs.Carry.{byteMeans}
-use Rattle.paper.specs.Calls.{isAccepted, feedRefusal, Feeding, next, run, fedNothing, feedCall}
-use Rattle.kept.specs.After.{settled}
+use Rattle.paper.specs.Calls.{isAccepted, feedRefusal, Feeding, next, run, fedNothing, feedCall, settled}
 use Rattle.kept.proofs.Tests.{by-cond}
 use Rattle.kept.proofs.Marks.{marks-hold}
 use Rattle.kept.proofs.Sized.{byte-spans}

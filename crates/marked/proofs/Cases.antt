@@ -1,9 +1,9 @@
 -- The marked cases hold, for every font: `marked`. Each is computed from the paper's definitions. Assumes nothing.
 use mathlib.Core.Path.{_≡_, refl, ap, _∙_}
-use mathlib.Core.Bool.{Bool, true, false, cond, _&&_}
+use mathlib.Core.Bool.{true, false, cond, _&&_}
 use mathlib.Core.List.{List, [], _∷_, _++_}
-use Prim.Native.Nat.{ℕ, _+_, _*_, _-_, _/_, _%_, _<_}
-use lib.ListN.{length, getD, replicate}
+use Prim.Native.Nat.{ℕ, _+_, _*_, _-_, _/_, _<_}
+use lib.ListN.{length}
 use lib.Dec.{leb, ltb, eqb}
 use Rattle.paper.specs.declared.State.{State}
 use Rattle.paper.specs.declared.Answer.{Answer}

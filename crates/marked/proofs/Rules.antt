@@ -1,5 +1,5 @@
 -- The cases of specs/Rules hold: each is computed. Assumes nothing.
-use mathlib.Core.Path.{_≡_, refl}
+use mathlib.Core.Path.{refl}
 use mathlib.Core.List.{List}
 use Prim.Native.Nat.{ℕ}
 use Rattle.paper.specs.Panel.{panel}

@@ -7,8 +7,7 @@ use lib.ListN.{length, getD, replicate}
 use Rattle.paper.specs.declared.Cursor.{Cursor}
 use Rattle.paper.specs.declared.State.{State}
 use Rattle.paper.specs.declared.Answer.{Answer}
-use Rattle.paper.specs.declared.Outcome.{Outcome}
-use Rattle.paper.specs.declared.Outcome.the-variants.{Unfinished, Carried}
+use Rattle.paper.specs.declared.Outcome.the-variants.{Unfinished}
 use Rattle.paper.specs.declared.Refusal.the-variants.{Accepted}
 use Rattle.paper.specs.Panel.{panel}
 use Rattle.paper.specs.Numbers.{outcomeNumber, refusalNumber}

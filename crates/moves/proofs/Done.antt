@@ -1,27 +1,17 @@
 -- What was done, put together from its parts: nothing written, one stroke, and one move after another. Assumes nothing.
 use mathlib.Core.Path.{_≡_, refl, sym, ap, ap₂, _∙_}
-use mathlib.Core.List.{List, [], _∷_, _++_}
+use mathlib.Core.List.{List}
 use Prim.Native.Nat.{ℕ}
 use Rattle.paper.specs.declared.Geometry.{Geometry}
 use Rattle.paper.specs.declared.Span.{Span}
 use Rattle.paper.specs.declared.View.{View}
-use Rattle.paper.specs.Strokes.{Stroke, applied, applyAll, marked, markAll}
+use Rattle.paper.specs.Strokes.{Stroke, applied, applyAll, markAll}
 use Rattle.paper.specs.Moves.{Moved, only, writing, andThen}
 use Rattle.dots.specs.Spans.{markRect}
-use Rattle.dots.proofs.Spans.{marked-rect}
+use Rattle.dots.proofs.Strokes.{apply-append}
+use Rattle.dots.proofs.Spans.{marked-rect, marks-append}
 use Rattle.moves.specs.declared.Pen.{Pen}
 use Rattle.moves.specs.Does.{Does, pen}
-
--- strokes after others work on the memory that those left
-pub apply-append : (g : Geometry) (m : List ℕ) (a b : List Stroke)
-    → applyAll g m (a ++ b) ≡ applyAll g (applyAll g m a) b
-apply-append g m [] b = refl
-apply-append g m (s ∷ a) b = apply-append g (applied g m s) a b
-
--- and on the spans
-pub mark-append : (ps : List Span) (a b : List Stroke) → markAll ps (a ++ b) ≡ markAll (markAll ps a) b
-mark-append ps [] b = refl
-mark-append ps (s ∷ a) b = mark-append (marked ps s) a b
 
 -- a pen whose view is known
 pub pen-at : {u v : View} {ps : List Span} → u ≡ v → pen u ps ≡ pen v ps
@@ -46,7 +36,7 @@ module _ {g : Geometry} {ps : List Span} {m : List ℕ} where
         view = e .view ∙ ap (λ (v : View). f v .view) (d .view);
         spans =
             e .spans ∙ ap₂ (λ (qs : List Span) (v : View). markAll qs (f v .strokes)) (d .spans) (d .view)
-            ∙ sym (mark-append ps (t .strokes) (f (t .view) .strokes));
+            ∙ sym (marks-append ps (t .strokes) (f (t .view) .strokes));
         mem =
             e .mem ∙ ap₂ (λ (n : List ℕ) (v : View). applyAll g n (f v .strokes)) (d .mem) (d .view)
             ∙ sym (apply-append g m (t .strokes) (f (t .view) .strokes));

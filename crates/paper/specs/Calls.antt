@@ -1,7 +1,7 @@
 -- The five calls of document 01, each one definition that gives for every input what it answers and what state, memory and
 -- glass hold afterwards. "Numbers given back" says which refusals each tests, in order. Assumes nothing.
 use Prim.Native.Nat.{ℕ, _+_}
-use mathlib.Core.Bool.{Bool, true, false, cond, _&&_, not}
+use mathlib.Core.Bool.{Bool, true, false, cond, not}
 use mathlib.Core.List.{List, [], _∷_}
 use lib.ListN.{length, replicate}
 use lib.Dec.{eqb}

@@ -1,6 +1,6 @@
 -- Document 01, "Cells and moves", its first part: a cell dot by dot, and the strokes that store dots. Assumes nothing.
 use Prim.Native.Nat.{ℕ, _+_, _*_, _-_, _/_, min}
-use mathlib.Core.Bool.{Bool, true, false, cond, not, _&&_, _||_, xor}
+use mathlib.Core.Bool.{Bool, false, cond, not, _&&_, _||_, xor}
 use mathlib.Core.List.{List}
 use lib.ListN.{getD}
 use lib.Dec.{leb, ltb, eqb}

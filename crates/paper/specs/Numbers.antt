@@ -1,7 +1,6 @@
 -- Document 01, "Numbers given back": the number of each refusal and of each outcome, and what an outcome counts as.
 -- When each is given stands with the rule that gives it: refusals in Calls, outcomes in Reading and Carry. Assumes nothing.
 use Prim.Native.Nat.{ℕ}
-use mathlib.Core.Bool.{Bool, true, false}
 use Rattle.paper.specs.declared.Outcome.{Outcome}
 use Rattle.paper.specs.declared.Outcome.the-variants.{Unfinished, Carried, OutOfDomain, Cancelled, Unknown, NotCarried, WindowHeld, TooLarge, NotDefined}
 use Rattle.paper.specs.declared.Refusal.{Refusal}

@@ -1,7 +1,7 @@
 -- Document 01, "How bytes are read": what a byte gives to a half-read command. Nothing of state or memory is in it.
 -- Assumes nothing.
 use Prim.Native.Nat.{ℕ, _+_, _*_, _-_}
-use mathlib.Core.Bool.{Bool, true, false, cond, _&&_, _||_}
+use mathlib.Core.Bool.{Bool, cond, _&&_, _||_}
 use lib.Dec.{leb, ltb, eqb}
 use Rattle.paper.specs.declared.Geometry.{Geometry}
 use Rattle.paper.specs.declared.Key.the-variants.{Charset, Codes, Shown, Brightness, Reverse, Speed, Mixing, Width, Write}

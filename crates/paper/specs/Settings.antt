@@ -1,8 +1,8 @@
 -- Document 01, "Settings and windows": initial values, domains, windows, and the range in which a command works.
 -- Assumes nothing.
 use Prim.Native.Nat.{ℕ, _+_, _-_}
-use mathlib.Core.Bool.{Bool, true, false, cond, _&&_, _||_}
-use mathlib.Core.List.{List, [], _∷_}
+use mathlib.Core.Bool.{Bool, true, cond, _&&_, _||_}
+use mathlib.Core.List.{List}
 use lib.ListN.{getD, set, replicate}
 use lib.Dec.{leb, ltb, eqb}
 use Rattle.paper.specs.declared.Geometry.{Geometry}
@@ -17,7 +17,7 @@ use Rattle.paper.specs.declared.Key.the-variants.{Charset, Codes, Shown,
 use Rattle.paper.specs.declared.Half.{Half}
 use Rattle.paper.specs.declared.Half.the-variants.{Nothing}
 use Rattle.paper.specs.declared.Hold.{Hold}
-use Rattle.paper.specs.declared.Hold.the-variants.{Free, Held}
+use Rattle.paper.specs.declared.Hold.the-variants.{Free}
 use Rattle.paper.specs.declared.State.{State}
 use Rattle.paper.specs.Reading.{between}
 use Rattle.paper.specs.Strokes.{noSpan}

@@ -1,8 +1,8 @@
 -- What a command writes, as strokes: document 01's "stored by a rule", and "Holding, spans and refresh" as far as spans go.
 -- A stroke is a rectangle of memory and the byte that each place of it takes. A command's strokes are its whole effect on
 -- dots; they move the memory, they grow the spans, and the last one that holds a cell is who wrote it. Assumes nothing.
-use Prim.Native.Nat.{ℕ, suc, _+_, _*_, _-_, min, max}
-use mathlib.Core.Bool.{Bool, true, false, cond, _&&_}
+use Prim.Native.Nat.{ℕ, suc, _+_, _-_, min, max}
+use mathlib.Core.Bool.{Bool, cond, _&&_}
 use mathlib.Core.List.{List, [], _∷_}
 use lib.ListN.{getD}
 use lib.Dec.{leb, ltb, eqb}

@@ -6,9 +6,7 @@ mod state;
 pub use state::cursor;
 pub use state::is_none;
 pub use state::state_in_words;
-ghost use mathlib.Core.Path.{_≡_};
-ghost use Prim.Native.Nat.{_≤_, _<_, _^_, _%_, _/_};
-ghost use lib.ListN.{length};
+ghost use Prim.Native.Nat.{_<_, _^_, _%_, _/_};
 
 // A byte.
 pub fn put(out: &mut [u8], at: usize, b: u8) -> usize {

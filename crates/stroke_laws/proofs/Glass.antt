@@ -18,7 +18,7 @@ use Rattle.dots.proofs.Addresses.{column-lt, row-lt}
 use Rattle.dots.proofs.Strokes.{InStroke, applied-length, applied-out}
 use Rattle.dots.proofs.Spans.{getD-marked, mark-length}
 use Rattle.dots.proofs.Glass.{Holds, covered, Covered, covered-facts, covered-test, refreshed-length, refreshed-in, refreshed-out}
-use Rattle.stroke_laws.specs.Kept.{Synced}
+use Rattle.stroke_laws.specs.Synced.{Synced}
 
 -- ---- growth
 

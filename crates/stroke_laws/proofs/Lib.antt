@@ -1,3 +1,2 @@
 -- What strokes keep.
-pub mod Strokes
 pub mod Glass

@@ -1,3 +1,3 @@
-// Stroke laws: what any list of strokes keeps, shown once over the geometry: the glass, isolation, bytes, spans' bounds.
+// Stroke laws: the glass stays in step under any list of strokes, shown once over the geometry.
 // specs/ says what is kept, proofs/ shows it; there is no code.
 // It may use the paper and the laws of dots.

@@ -10,7 +10,7 @@ use Rattle.paper.specs.declared.View.{View}
 use Rattle.paper.specs.Settings.{viewOf, withView}
 use Rattle.paper.specs.Cells.{cellWidth, cellHeight, tooLarge}
 use Rattle.paper.specs.Moves.{only, backOf}
-use Rattle.paper.specs.Carry.{notCarried, ownersOnly, outOfDomain, notDefined, cellExceeds, carriedOut, exceeds, widthNow, heightNow}
+use Rattle.paper.specs.Carry.{notCarried, ownersOnly, outOfDomain, notDefined, cellExceeds, carriedOut, widthNow, heightNow}
 use Rattle.kept.proofs.Moves.{back-kept}
 use Rattle.kept.proofs.Views.{view-place, view-room}
 use Rattle.commands.proofs.Answers.{is-16, is-10, says, ends-at}
