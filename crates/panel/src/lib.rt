@@ -184,10 +184,11 @@ fn held_by(s: State, k: u8) -> State
         selected: s.selected,
         settings,
     };
+    let half = Half::Nothing;
     State {
         selected: k,
         hold,
-        half: Half::Nothing,
+        half,
         ..s
     }
 }
@@ -222,13 +223,16 @@ fn put_back(s: State, h: Hold) -> State
             window: _,
             selected,
             settings,
-        } => State {
-            settings,
-            selected,
-            hold: Hold::Free,
-            half: Half::Nothing,
-            ..s
-        },
+        } => {
+            let back = settings;
+            State {
+                settings: back,
+                selected,
+                hold: Hold::Free,
+                half: Half::Nothing,
+                ..s
+            }
+        }
     }
 }
 
