@@ -1,10 +1,10 @@
 // Dots: the memory as bytes at rows·x + y. Rectangles are cleared and moved, spans grow and are copied to the glass.
 // Each contract gives the whole memory, or the whole glass, afterwards.
-// It may use the paper alone, and it knows nothing of characters, windows or the state.
+// It may use the paper and the spans' growth, and it knows nothing of characters, windows or the state.
 use paper::Geometry;
 use paper::Span;
 ghost use mathlib.Core.Path.{_≡_};
-ghost use Prim.Native.Nat.{_+_, _≤_, _<_, min, max};
+ghost use Prim.Native.Nat.{_+_, _≤_, _<_, min};
 ghost use lib.ListN.{length, getD, set};
 ghost use Rattle.paper.specs.Panel.{memoryLength, address};
 ghost use Rattle.paper.specs.Strokes.{grown, shown, shownAll, refreshed};
@@ -138,34 +138,14 @@ pub fn put(g: Geometry, mem: &mut [u8], x: usize, y: usize, v: u8)
 
 // ---- spans
 
-// The one of two columns that is further left.
-fn leftmost(a: u16, b: u16) -> u16
-    ensures { λ r. ⌜ r ≡ min a b ⌝ }
+// The span grown by `width` columns from `left`: by the first of them and by the last.
+fn grow_columns(p: Span, left: usize, width: usize) -> Span
+    requires { ⌜ (0 < width) × (left + width < 65536) ⌝ }
+    ensures { λ r. ⌜ r ≡ grown p left (left + width) ⌝ }
 {
-    if a < b { a } else { b }
-}
-
-// The one of two columns that is further right.
-fn rightmost(a: u16, b: u16) -> u16
-    ensures { λ r. ⌜ r ≡ max a b ⌝ }
-{
-    if a < b { b } else { a }
-}
-
-// The span that holds what p holds, and the columns from `first` to the one before `end`.
-pub fn grow(p: Span, first: u16, end: u16) -> Span
-    ensures { λ r. ⌜ r ≡ grown p first end ⌝ }
-{
-    let from = p.first;
-    let to = p.end;
-    if to == 0 {
-        Span { first, end }
-    } else {
-        Span {
-            first: leftmost(from, first),
-            end: rightmost(to, end),
-        }
-    }
+    let last = left + (width - 1);
+    let q = spans::grown_by(p, left as u16);
+    spans::grown_by(q, last as u16)
 }
 
 // Row y's span, grown by the columns of a rectangle on that row.
@@ -175,7 +155,7 @@ fn grow_row(p: Span, y: usize, left: usize, top: usize, width: usize, height: us
 {
     let reached = (0 < width) & ((top <= y) & (y < top + height));
     if reached {
-        grow(p, left as u16, (left + width) as u16)
+        grow_columns(p, left, width)
     } else {
         p
     }
