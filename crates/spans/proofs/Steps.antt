@@ -43,9 +43,11 @@ module _ {M : Type 1} (𝓤 : URA M) (H : Heap 𝓤) (A : Atoms 𝓤) (W : Given
   pub storable : (p : Span) (v : Val) → IsSpan p v → T (hasTy (lone (S .mir)) v) × WT v
   storable p v is = laws.lawful span.the-type span-laws.the-laws 𝓤 H A W .typed p (v ∷ []) is .0
 
-module _ {M : Type 1} {𝓤 : URA M} {H : Heap 𝓤} {A : Atoms 𝓤} {K : Type 0} {W : Given 𝓤 H A} {Γ : List (Item 𝓤)} {G : Goal 𝓤 H} where
+module _ {M : Type 1} {𝓤 : URA M} {H : Heap 𝓤} {A : Atoms 𝓤} {K : Type 0} {W : Given 𝓤 H A} {Γ : List (Item 𝓤)}
+    {G : Goal 𝓤 H} where
   -- what a span owns shows its value, and stays
-  pub see-span : K → (p : Span) (v : Val) → (IsSpan p v → Seq K W (‵ (S .own p (v ∷ [])) ∷ Γ) G) → Seq K W (‵ (S .own p (v ∷ [])) ∷ Γ) G
+  pub see-span : K → (p : Span) (v : Val) → (IsSpan p v → Seq K W (‵ (S .own p (v ∷ [])) ∷ Γ) G)
+      → Seq K W (‵ (S .own p (v ∷ [])) ∷ Γ) G
   see-span t p v k = peeks t S (Is S) (shows 𝓤 H A S) p (v ∷ []) k
 
   -- what a span owns is had for nothing, and so is what a column owns
