@@ -6,22 +6,25 @@
 #include <stdio.h>
 #include <time.h>
 
+/* Seconds of processor time, so that other programs' turns do not count. */
 static double now(void)
 {
     struct timespec t;
-    clock_gettime(CLOCK_MONOTONIC, &t);
+    clock_gettime(CLOCK_PROCESS_CPUTIME_ID, &t);
     return (double)t.tv_sec + 1e-9 * (double)t.tv_nsec;
 }
 
 #define HEADING(what, other) printf("%-34s %11s %11s   %5s\n", what, "proved", other, "ratio")
 
-/* The best of nine rounds each, in turn, so that both meet the same machine. */
+/* The best of many short rounds each, in turn, so that both meet the same machine. */
+enum { ROUNDS = 45 };
+
 #define MEASURE(name, times, a, b)                                                   \
     do {                                                                             \
         fill();                                                                      \
         for (unsigned i = 0; i < 64; i++) { a; b; same(name); }                      \
         double best_a = 1e9, best_b = 1e9;                                           \
-        for (int round = 0; round < 9; round++) {                                    \
+        for (int round = 0; round < ROUNDS; round++) {                                    \
             double t0 = now();                                                       \
             for (unsigned i = 0; i < (times); i++) { a; }                            \
             double t1 = now();                                                       \

@@ -1,0 +1,274 @@
+/* The calls from C (include/panel.h), measured against the second program's: streams fed and refreshed, the state's size, the
+ * deepest stack. Memories, glasses and counts are compared before the timing. */
+#include "measure.h"
+#include "../include/panel.h"
+#include "../second/panel.h"
+#include <stdlib.h>
+#include <string.h>
+#include <ucontext.h>
+
+/* ---- the two sides, each with its memory, glass and state */
+struct lent {
+    uint8_t memory[PANEL_MEMORY], glass[PANEL_GLASS];
+    size_t counted; /* commands and bytes moved, so that they are compared too */
+};
+
+static struct lent ours, theirs;
+static uint8_t record[PANEL_STATE], font[PANEL_FONT];
+static second_state state;
+
+enum call { START, FEED, HOLD, RELEASE, REFRESH, CALLS };
+
+static const char *const names[CALLS] = {"start", "feed", "hold", "release", "refresh"};
+
+/* The frame of the function below that makes a call: where the call's stack begins. */
+static const uint8_t *frame;
+#define CALL __attribute__((noinline)) static void
+#define HERE frame = __builtin_frame_address(0)
+
+CALL our_start(void)
+{
+    HERE;
+    ours.counted += panel_start(record, sizeof record, ours.memory, sizeof ours.memory);
+}
+
+CALL our_feed(const uint8_t *piece, size_t length)
+{
+    HERE;
+    PanelFed f = panel_feed(record, sizeof record, ours.memory, sizeof ours.memory, font, sizeof font, piece, length);
+    ours.counted += f.carried + f.answered;
+}
+
+CALL our_hold(void)
+{
+    HERE;
+    ours.counted += panel_hold(record, sizeof record, 1);
+}
+
+CALL our_release(void)
+{
+    HERE;
+    ours.counted += panel_release(record, sizeof record);
+}
+
+CALL our_refresh(void)
+{
+    HERE;
+    ours.counted += panel_refresh(record, sizeof record, ours.memory, sizeof ours.memory, ours.glass, sizeof ours.glass).moved;
+}
+
+CALL their_start(void)
+{
+    HERE;
+    theirs.counted += second_start(&state, theirs.memory, sizeof theirs.memory);
+}
+
+CALL their_feed(const uint8_t *piece, size_t length)
+{
+    HERE;
+    second_counts counts;
+    second_feed(&state, theirs.memory, sizeof theirs.memory, font, sizeof font, piece, length, &counts);
+    theirs.counted += counts.carried + counts.answered;
+}
+
+CALL their_hold(void)
+{
+    HERE;
+    theirs.counted += second_hold(&state, 1);
+}
+
+CALL their_release(void)
+{
+    HERE;
+    theirs.counted += second_release(&state);
+}
+
+CALL their_refresh(void)
+{
+    HERE;
+    size_t moved;
+    second_refresh(&state, theirs.memory, sizeof theirs.memory, theirs.glass, sizeof theirs.glass, &moved);
+    theirs.counted += moved;
+}
+
+static struct side {
+    void (*start)(void), (*feed)(const uint8_t *, size_t), (*hold)(void), (*release)(void), (*refresh)(void);
+    size_t deepest[CALLS];
+} panel = {our_start, our_feed, our_hold, our_release, our_refresh, {0}},
+  second = {their_start, their_feed, their_hold, their_release, their_refresh, {0}};
+
+/* ---- the stream that is fed now */
+static uint8_t piece[4096];
+static size_t length;
+
+static void put(const void *bytes, size_t n)
+{
+    memcpy(piece + length, bytes, n);
+    length += n;
+}
+
+#define PUT(text) put(text, sizeof text - 1)
+
+static void feed_whole(const struct side *side)
+{
+    side->feed(piece, length);
+}
+
+static void feed_and_refresh(const struct side *side)
+{
+    for (size_t at = 0; at < length; at += 64) {
+        side->feed(piece + at, length - at < 64 ? length - at : 64);
+        side->refresh();
+    }
+}
+
+static void fill(void)
+{
+    uint32_t x = 2026;
+    for (size_t i = 0; i < sizeof font; i++)
+        font[i] = (uint8_t)((x = x * 1664525u + 1013904223u) >> 24);
+    memset(&ours, 0, sizeof ours);
+    theirs = ours;
+    panel.start();
+    second.start();
+}
+
+static void same(const char *name)
+{
+    if (memcmp(&ours, &theirs, sizeof ours)) {
+        fprintf(stderr, "%s: the two differ\n", name);
+        exit(1);
+    }
+}
+
+/* ---- the stack: a call runs on a painted one, which shows how deep it wrote */
+enum { STACK = 1 << 16 };
+
+static uint8_t stack[STACK];
+static ucontext_t here, there;
+static struct side *asked;
+static enum call kind;
+
+static void ask(void)
+{
+    switch (kind) {
+    case START: asked->start(); break;
+    case FEED: asked->feed(piece, length); break;
+    case HOLD: asked->hold(); break;
+    case RELEASE: asked->release(); break;
+    default: asked->refresh(); break;
+    }
+}
+
+static void look(struct side *side, enum call call)
+{
+    asked = side;
+    kind = call;
+    memset(stack, 0xA5, STACK);
+    getcontext(&there);
+    there.uc_stack.ss_sp = stack;
+    there.uc_stack.ss_size = STACK;
+    there.uc_link = &here;
+    makecontext(&there, ask, 0);
+    swapcontext(&here, &there);
+    const uint8_t *lowest = stack;
+    while (*lowest == 0xA5)
+        lowest++;
+    size_t depth = (size_t)(frame - lowest);
+    if (depth > side->deepest[call])
+        side->deepest[call] = depth;
+}
+
+/* Every call in a row on a fresh panel, twice: what is linked when it is first called is linked then. */
+static void look_at_all(struct side *side)
+{
+    length = 0;
+    PUT("\x1F(w\x02\x01\x01\x0A\0\0\0\x0E\0\x01\0");
+    for (int i = 0; i < 2; i++) {
+        memset(side->deepest, 0, sizeof side->deepest);
+        for (enum call call = START; call < CALLS; call++)
+            look(side, call);
+    }
+}
+
+/* ---- the runs */
+#define STREAM(name, way)                                     \
+    do {                                                      \
+        MEASURE(name, 50, way(&panel), way(&second));        \
+        look(&panel, FEED);                                   \
+        look(&second, FEED);                                  \
+    } while (0)
+
+static void put_text(void)
+{
+    for (length = 0; length < 1024; length++)
+        piece[length] = (uint8_t)(0x20 + length * 7 % 200);
+}
+
+static void put_mixed(void)
+{
+    length = 0;
+    while (length < 1000)
+        PUT("\x1F$\x05\0\x01\0" "A\x0A\x1Fr\x01" "12\x1Fr\0\x1Fw\x01 x\x1Fw\0\x1F(w\x02\x01\x01\x0A\0\0\0\x0E\0\x01\0\x11 3\x0D\x08\x10\x0C");
+}
+
+static void streams(void)
+{
+    HEADING("a stream, once", "second");
+
+    put_text();
+    STREAM("text, MD1", feed_whole);
+
+    length = 0;
+    PUT("\x1F\x02");
+    while (length < 1000)
+        PUT("LANE 4  00:58.31");
+    STREAM("text, MD2", feed_whole);
+
+    put_mixed();
+    STREAM("mixed commands", feed_whole);
+
+    length = 0;
+    PUT("\x1F(g@\x04\x02");
+    while (length < 600)
+        PUT("\x0B" "1234");
+    STREAM("enlarged digits", feed_whole);
+
+    length = 0;
+    for (int i = 0; i < 6; i++) {
+        PUT("\x1F(f\x11\x40\0\x02\0\x01");
+        for (int j = 0; j < 128; j++)
+            put(&j, 1);
+    }
+    STREAM("images", feed_whole);
+
+    length = 0;
+    PUT("\x1F\x02");
+    while (length < 200)
+        PUT("\x0A");
+    STREAM("scrolling, MD2 line feeds", feed_whole);
+
+    length = 0;
+    PUT("\x1F\x03");
+    while (length < 400)
+        PUT("LANE 4  00:58.31");
+    STREAM("scrolling, MD3", feed_whole);
+
+    put_text();
+    STREAM("text, refresh each 64 bytes", feed_and_refresh);
+
+    put_mixed();
+    STREAM("mixed, refresh each 64 bytes", feed_and_refresh);
+}
+
+int main(void)
+{
+    look_at_all(&panel);
+    look_at_all(&second);
+    streams();
+    printf("\n%-34s %11s %11s\n", "bytes", "proved", "second");
+    printf("%-34s %11d %11zu\n", "state", PANEL_STATE, sizeof state);
+    for (enum call call = START; call < CALLS; call++)
+        printf("deepest stack, %-19s %11zu %11zu\n", names[call], panel.deepest[call], second.deepest[call]);
+    return 0;
+}
