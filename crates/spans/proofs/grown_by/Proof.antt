@@ -86,7 +86,7 @@ module _ {M : Type 1} (𝓤 : URA M) (H : Heap 𝓤) (A : Atoms 𝓤) (W : Given
   abbrev Ref : ℕ → ℕ → GName → Fml
   Ref α l δ = MutRef (named 0) (α ∷ []) S .own (ref l δ) (vptr l 0 ∷ [])
 
-  -- `grow` is called at it and n, for the lifetime α; and what it ensures, of the last value
+  -- `grow` is called at it and n, for the lifetime α
   abbrev to-grow : ℕ → ℕ → GName → Grow 𝓤 H A at-mem run .Ghost
   to-grow α l δ = (((α ∷ [], tt), (fullShare, tt), tt, (ref l δ, (n, tt)), (vptr l 0 ∷ [], (vint w16 n ∷ [], tt))), tt)
 
@@ -98,6 +98,7 @@ module _ {M : Type 1} (𝓤 : URA M) (H : Heap 𝓤) (A : Atoms 𝓤) (W : Given
       nothing ! $ move ! (1 ∷ 0 ∷ []) $ join ! $ frame ! $
       nothing ! $ own-column ! n fits $ fjoin ! $ move ! (1 ∷ 0 ∷ []) $ fjoin ! $ done !
 
+  -- what it ensures, and what that says of the last value
   abbrev Ensured : ℕ → ℕ → GName → Unit {0} → SProp 𝓤
   Ensured α l δ r = ensured 𝓤 H A grow.ended (grow.clauses 𝓤 H A at-mem run) (α ∷ [], tt) (ref l δ, (n, tt)) tt r
 
