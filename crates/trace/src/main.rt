@@ -1,8 +1,6 @@
 // Feeds a recorded stream to a fresh panel byte by byte and writes a line for each command: its place in the stream, its bytes,
 // its kind, the number and words of its outcome, and the current window with its cursor after it.
 // Standard input has the font's 1,120 bytes and then the stream. A command that is half read at the end has a line too, with 9.
-mod line;
-
 use libc::STDOUT_FILENO;
 use paper::Outcome;
 use paper::State;

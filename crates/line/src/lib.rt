@@ -1,4 +1,5 @@
-// A command's line.
+// A command's line in a trace: its place in the stream, its bytes, its kind, the number and words of its outcome, and the current
+// window with its cursor. It is put into a lent buffer. It uses the paper, printing, the kinds, and windows for the cursor.
 use paper::Cursor;
 use paper::Outcome;
 use paper::State;
@@ -12,7 +13,7 @@ fn pad(out: &mut [u8], at: usize, column: usize) -> usize {
     to
 }
 
-// A command's bytes, each after a blank; of a longer one than any but an image or a download the first nine and how many there are.
+// A command's bytes, each after a blank. Only an image or a download has more than 14: its first nine, and how many there are.
 fn put_bytes(out: &mut [u8], at: usize, command: &[u8]) -> usize {
     let n = command.len();
     if n <= 14 {

@@ -1,10 +1,10 @@
--- `trace::line::pad` is safe and ends. The measure is how many columns are left.
+-- `line::pad` is safe and ends. The measure is how many columns are left.
 use borrow.Author.Needs.{needs}
 use Prim.Native.Nat.{_-_}
 use lib.ListN.{length}
 use mathlib.Core.Path.{_≡_}
-use Rattle.trace.proofs.line.pad.Statement.{statement}
-use Rattle.trace.proofs.line.pad.Tie as tie
+use Rattle.line.proofs.pad.Statement.{statement}
+use Rattle.line.proofs.pad.Tie as tie
 
 abbrev Inv-loop : tie.InvT-loop
 Inv-loop out₀ at column to₀ counter₀ out to counter = length out ≡ length out₀
