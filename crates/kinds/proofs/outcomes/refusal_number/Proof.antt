@@ -1,0 +1,64 @@
+-- `kinds::outcomes::refusal_number` meets its contract: an arm for each refusal.
+use borrow.Author.Needs.{needs}
+use Rattle.paper.specs.Numbers.{refusalNumber}
+use Rattle.kinds.proofs.outcomes.refusal_number.Statement.{statement}
+use Rattle.kinds.proofs.outcomes.refusal_number.Tie as tie
+
+returns : tie.Need-returns
+unfolding refusalNumber
+returns c = rw (c .enum-told .given .1)
+
+returns-2 : tie.Need-returns-2
+unfolding refusalNumber
+returns-2 c = rw (c .enum-told2 .given .1)
+
+returns-3 : tie.Need-returns-3
+unfolding refusalNumber
+returns-3 c = rw (c .enum-told3 .given .1)
+
+returns-4 : tie.Need-returns-4
+unfolding refusalNumber
+returns-4 c = rw (c .enum-told4 .given .1)
+
+returns-5 : tie.Need-returns-5
+unfolding refusalNumber
+returns-5 c = rw (c .enum-told5 .given .1)
+
+returns-6 : tie.Need-returns-6
+unfolding refusalNumber
+returns-6 c = rw (c .enum-told6 .given .1)
+
+returns-7 : tie.Need-returns-7
+unfolding refusalNumber
+returns-7 c = rw (c .enum-told7 .given .1)
+
+returns-8 : tie.Need-returns-8
+unfolding refusalNumber
+returns-8 c = rw (c .enum-told8 .given .1)
+
+returns-9 : tie.Need-returns-9
+unfolding refusalNumber
+returns-9 c = rw (c .enum-told9 .given .1)
+
+pub refusal-number-spec : {M : Type 1} → statement M
+refusal-number-spec =
+    tie.close
+    (tie.spec
+    (λ c. search needs)
+    (λ c. search needs)
+    (λ c. search needs)
+    (λ c. search needs)
+    (λ c. search needs)
+    (λ c. search needs)
+    (λ c. search needs)
+    (λ c. search needs)
+    (λ c. search needs)
+    returns
+    returns-2
+    returns-3
+    returns-4
+    returns-5
+    returns-6
+    returns-7
+    returns-8
+    returns-9)

@@ -1,0 +1,55 @@
+// The numbers of outcomes and refusals, and each outcome in words.
+use paper::Outcome;
+use paper::Refusal;
+ghost use mathlib.Core.Path.{_≡_};
+ghost use Rattle.paper.specs.Numbers.{outcomeNumber, refusalNumber};
+
+// The number of an outcome, 9 to 17.
+pub fn outcome_number(o: Outcome) -> u64
+    ensures { λ r. ⌜ r ≡ outcomeNumber o ⌝ }
+{
+    match o {
+        Outcome::Unfinished => 9,
+        Outcome::Carried => 10,
+        Outcome::OutOfDomain => 11,
+        Outcome::Cancelled => 12,
+        Outcome::Unknown => 13,
+        Outcome::NotCarried => 14,
+        Outcome::WindowHeld => 15,
+        Outcome::TooLarge => 16,
+        Outcome::NotDefined => 17,
+    }
+}
+
+// The number of a refusal, 1 to 8; 0 where the call was not refused.
+pub fn refusal_number(r: Refusal) -> u64
+    ensures { λ n. ⌜ n ≡ refusalNumber r ⌝ }
+{
+    match r {
+        Refusal::Accepted => 0,
+        Refusal::MemoryLength => 1,
+        Refusal::FontLength => 2,
+        Refusal::GlassLength => 3,
+        Refusal::NoSuchWindow => 4,
+        Refusal::UndefinedWindow => 5,
+        Refusal::HeldAlready => 6,
+        Refusal::NotHeld => 7,
+        Refusal::BrokenState => 8,
+    }
+}
+
+// What an outcome's number says.
+pub fn outcome_words(n: u64) -> [u8; 18] {
+    match n {
+        9 => *b"not finished      ",
+        10 => *b"carried out       ",
+        11 => *b"out of its domain ",
+        12 => *b"cancelled         ",
+        13 => *b"unknown code      ",
+        14 => *b"not carried       ",
+        15 => *b"a window is held  ",
+        16 => *b"cell too large    ",
+        17 => *b"window not defined",
+        _ => *b"no outcome        ",
+    }
+}

@@ -1,0 +1,71 @@
+// Feeds a recorded stream to a fresh panel and writes its glass: drawn with half blocks, or as a PBM file, as the arguments ask.
+// Standard input has the font's 1,120 bytes and then the stream. The glass is what one refresh brings.
+use paper::Half;
+
+// What became of a stream: commands carried out, those answered 11 to 17, bytes moved, and whether a command is half read.
+struct Counts {
+    carried: usize,
+    answered: usize,
+    moved: usize,
+    half: bool,
+}
+
+fn is_some(h: Half) -> bool {
+    if let Half::Nothing = h { false } else { true }
+}
+
+// Plays a stream on a fresh panel and refreshes the glass.
+fn play(font: &[u8], stream: &[u8], glass: &mut [u8]) -> Counts {
+    let mut mem = [0u8; 1024];
+    let a = viewer::start(&mut mem);
+    let fresh = a.state;
+    let f = viewer::feed(&mut mem, font, stream, fresh);
+    let fed = f.state;
+    let r = viewer::refresh(&mem, glass, fed);
+    let h = fed.half;
+    Counts {
+        carried: f.carried,
+        answered: f.answered,
+        moved: r.moved,
+        half: is_some(h),
+    }
+}
+
+// The line below the glass.
+fn put_note(out: &mut [u8], c: Counts) -> usize {
+    let at = print::decimal(out, 0, c.carried as u64);
+    let at = print::text(out, at, b" commands carried out, ");
+    let at = print::decimal(out, at, c.answered as u64);
+    let at = print::text(out, at, b" answered 11 to 17, ");
+    let at = print::decimal(out, at, c.moved as u64);
+    let at = print::text(out, at, b" bytes moved to the glass");
+    put_end(out, at, c.half)
+}
+
+fn put_end(out: &mut [u8], at: usize, half: bool) -> usize {
+    if half {
+        return print::text(out, at, b"; a command is half read\n");
+    }
+    print::end(out, at)
+}
+
+// Plays a stream and writes what became of it.
+fn show(font: &[u8], stream: &[u8]) {
+    let mut glass = [0u8; 224];
+    let mut note = [0u8; 256];
+    let c = play(font, stream, &mut glass);
+    let n = put_note(&mut note, c);
+    viewer::present(&glass, words::part(&note, 0, n));
+}
+
+fn main() {
+    let mut font = [0u8; 1120];
+    let mut room = viewer::room();
+    if !viewer::read_font(&mut font) {
+        return;
+    }
+    let input = viewer::read_rest(&mut room);
+    if input.ok {
+        show(&font, words::part(&room, 0, input.bytes));
+    }
+}
