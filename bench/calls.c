@@ -194,7 +194,7 @@ static void look_at_all(struct side *side)
 /* ---- the runs */
 #define STREAM(name, way)                                     \
     do {                                                      \
-        MEASURE(name, 50, way(&panel), way(&second));        \
+        MEASURE(name, 50, length, way(&panel), way(&second)); \
         look(&panel, FEED);                                   \
         look(&second, FEED);                                  \
     } while (0)
@@ -214,7 +214,7 @@ static void put_mixed(void)
 
 static void streams(void)
 {
-    HEADING("a stream, once", "second");
+    HEADING("a byte of a stream", "second");
 
     put_text();
     STREAM("text, MD1", feed_whole);

@@ -108,21 +108,21 @@ static void same(const char *name)
 int main(void)
 {
     HEADING("leaf", "plain C");
-    MEASURE("clear, 112 by 2", 100000, leaf_clear(ours, 1024, 0, 0, 112, 2), plain_clear(theirs, 0, 0, 112, 2));
-    MEASURE("clear, 14 by 1", 1000000, leaf_clear(ours, 1024, 10, 0, 14, 1), plain_clear(theirs, 10, 0, 14, 1));
-    MEASURE("scroll up 1, 112 by 2", 100000, leaf_scroll_up(ours, 1024, 0, 0, 112, 2, 1), plain_scroll_up(theirs, 0, 0, 112, 2, 1));
-    MEASURE("move left 7, 112 by 1", 100000, leaf_move_left(ours, 1024, 0, 0, 112, 1, 7), plain_move_left(theirs, 0, 0, 112, 1, 7));
-    MEASURE("move left 14, 512 by 2", 20000, leaf_move_left(ours, 1024, 0, 0, 512, 2, 14), plain_move_left(theirs, 0, 0, 512, 2, 14));
-    MEASURE("draw, 1 by 1", 1000000,
+    MEASURE("clear, 112 by 2", 5000, 1, leaf_clear(ours, 1024, 0, 0, 112, 2), plain_clear(theirs, 0, 0, 112, 2));
+    MEASURE("clear, 14 by 1", 50000, 1, leaf_clear(ours, 1024, 10, 0, 14, 1), plain_clear(theirs, 10, 0, 14, 1));
+    MEASURE("scroll up 1, 112 by 2", 5000, 1, leaf_scroll_up(ours, 1024, 0, 0, 112, 2, 1), plain_scroll_up(theirs, 0, 0, 112, 2, 1));
+    MEASURE("move left 7, 112 by 1", 5000, 1, leaf_move_left(ours, 1024, 0, 0, 112, 1, 7), plain_move_left(theirs, 0, 0, 112, 1, 7));
+    MEASURE("move left 14, 512 by 2", 1000, 1, leaf_move_left(ours, 1024, 0, 0, 512, 2, 14), plain_move_left(theirs, 0, 0, 512, 2, 14));
+    MEASURE("draw, 1 by 1", 50000, 1,
             leaf_draw(ours, 1024, font, 1120, (uint8_t)(0x20 + i % 224), 7, 0, 7, 1, 0, 0, 1, 1),
             plain_draw(theirs, font, 0x20 + i % 224, 7, 0, 7, 1, 0, 0, 1, 1));
-    MEASURE("draw, reversed, exclusive or", 1000000,
+    MEASURE("draw, reversed, exclusive or", 50000, 1,
             leaf_draw(ours, 1024, font, 1120, (uint8_t)(0x20 + i % 224), 7, 1, 7, 1, 1, 3, 1, 1),
             plain_draw(theirs, font, 0x20 + i % 224, 7, 1, 7, 1, 1, 3, 1, 1));
-    MEASURE("draw, enlarged 4 by 2", 300000,
+    MEASURE("draw, enlarged 4 by 2", 15000, 1,
             leaf_draw(ours, 1024, font, 1120, (uint8_t)(0x20 + i % 224), 28, 0, 28, 2, 0, 0, 4, 2),
             plain_draw(theirs, font, 0x20 + i % 224, 28, 0, 28, 2, 0, 0, 4, 2));
-    MEASURE("refresh, all", 100000, sink += leaf_refresh(ours, 1024, our_glass, 224, 0, 512), sink += plain_refresh(theirs, their_glass, 0, 512));
-    MEASURE("refresh, 7 columns", 1000000, sink += leaf_refresh(ours, 1024, our_glass, 224, 7, 14), sink += plain_refresh(theirs, their_glass, 7, 14));
+    MEASURE("refresh, all", 5000, 1, sink += leaf_refresh(ours, 1024, our_glass, 224, 0, 512), sink += plain_refresh(theirs, their_glass, 0, 512));
+    MEASURE("refresh, 7 columns", 50000, 1, sink += leaf_refresh(ours, 1024, our_glass, 224, 7, 14), sink += plain_refresh(theirs, their_glass, 7, 14));
     return sink == 1;
 }

@@ -19,12 +19,13 @@ static double now(void)
 /* The best of many short rounds each, in turn, so that both meet the same machine. */
 enum { ROUNDS = 45 };
 
-#define MEASURE(name, times, a, b)                                                   \
+/* Each is done `times` times in a round. One time has `parts` parts: the table has the time of one. */
+#define MEASURE(name, times, parts, a, b)                                            \
     do {                                                                             \
         fill();                                                                      \
         for (unsigned i = 0; i < 64; i++) { a; b; same(name); }                      \
         double best_a = 1e9, best_b = 1e9;                                           \
-        for (int round = 0; round < ROUNDS; round++) {                                    \
+        for (int round = 0; round < ROUNDS; round++) {                               \
             double t0 = now();                                                       \
             for (unsigned i = 0; i < (times); i++) { a; }                            \
             double t1 = now();                                                       \
@@ -33,6 +34,7 @@ enum { ROUNDS = 45 };
             if (t1 - t0 < best_a) best_a = t1 - t0;                                  \
             if (t2 - t1 < best_b) best_b = t2 - t1;                                  \
         }                                                                            \
-        printf("%-34s %8.1f ns %8.1f ns   %5.2f\n", name, 1e9 * best_a / (times),    \
-               1e9 * best_b / (times), best_a / best_b);                             \
+        printf("%-34s %8.1f ns %8.1f ns   %5.2f\n", name,                            \
+               1e9 * best_a / (times) / (parts), 1e9 * best_b / (times) / (parts),   \
+               best_a / best_b);                                                     \
     } while (0)
