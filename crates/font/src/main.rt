@@ -203,13 +203,13 @@ fn complain(line: u64, flaw: Flaw) {
 }
 
 fn main() {
-    let mut text = [0u8; 65537];
+    let mut text = io::large_buffer();
     let mut dots = [0u8; 35];
     let mut store = [0u8; 1350];
     let mut font = [0u8; 1120];
     let n = io::read_full(STDIN_FILENO, &mut text);
-    if n > 65536 {
-        io::write_all(STDERR_FILENO, b"a font's text of more than 65536 bytes\n");
+    if n == 65536 {
+        io::write_all(STDERR_FILENO, b"a font's text of more than 65535 bytes\n");
         return;
     }
     let v = read_all(&text[..n], &mut dots, &mut store);

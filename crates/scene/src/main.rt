@@ -1,12 +1,16 @@
 // Plays a script (docs/SCRIPTS.md) and writes the panel's glass at its end: drawn with half blocks, or as a PBM file, as the
 // arguments ask. Standard input has the font's 1,120 bytes and then the script, whose world begins with that font, not the fixed
 // one. What the calls answer, and whether an `=` line holds, is for the player of scripts to say.
+ghost use Prim.Native.Nat.{_<_};
+ghost use lib.ListN.{length};
 use libc::STDERR_FILENO;
 use script::Run;
 use script::Said;
 
-// How far a script was played: so many lines, and whether each could be read.
+// How far a script was played: its world, where the next line begins, so many lines, and whether each could be read.
 struct Played {
+    run: Run,
+    at: usize,
     lines: u64,
     ok: bool,
 }
@@ -25,32 +29,61 @@ fn begin(own: &[u8], mem: &mut [u8], font: &mut [u8], glass: &mut [u8]) -> Run {
     run
 }
 
-// Plays a script's lines.
-fn play(
-    text: &[u8],
-    before: Run,
+// Plays a line. What it answers is written to a buffer that nobody reads.
+fn play_text(
+    line: &[u8],
+    run: Run,
     mem: &mut [u8],
     font: &mut [u8],
     glass: &mut [u8],
-    piece: &mut [u8],
-    out: &mut [u8],
-) -> Played {
-    let mut run = before;
-    let mut lines: u64 = 0;
-    let mut at = 0;
-    while at < text.len() {
-        lines = std::num::wrapping_add_u64(lines, 1);
-        let end = bytes::scan::find(text, at, text.len(), b'\n');
-        let next = end + 1;
-        let p = script::play(&text[at..end], run, mem, font, glass, piece, out);
-        let said = p.said;
-        run = p.run;
-        if is_bad(said) {
-            return Played { lines, ok: false };
-        }
-        at = next;
+) -> script::Played {
+    let mut piece = io::large_buffer();
+    let mut out = io::buffer();
+    script::play(line, run, mem, font, glass, &mut piece, &mut out)
+}
+
+// Plays the next line, which begins before the text's end.
+fn play_line(
+    text: &[u8],
+    before: Played,
+    mem: &mut [u8],
+    font: &mut [u8],
+    glass: &mut [u8],
+) -> Played
+    requires { ⌜ before .at < length (now text) ⌝ }
+    ensures { λ r. ⌜ before .at < r .at ⌝ }
+{
+    let at = before.at;
+    let run = before.run;
+    let end = bytes::scan::find(text, at, text.len(), b'\n');
+    let next = end + 1;
+    let lines = std::num::wrapping_add_u64(before.lines, 1);
+    let p = play_text(&text[at..end], run, mem, font, glass);
+    let said = p.said;
+    let run = p.run;
+    Played {
+        run,
+        at: next,
+        lines,
+        ok: !is_bad(said),
     }
-    Played { lines, ok: true }
+}
+
+// Plays a script's lines, until one can't be read.
+fn play(text: &[u8], run: Run, mem: &mut [u8], font: &mut [u8], glass: &mut [u8]) -> Played {
+    let mut p = Played {
+        run,
+        at: 0,
+        lines: 0,
+        ok: true,
+    };
+    while p.at < text.len() {
+        if !p.ok {
+            return p;
+        }
+        p = play_line(text, p, mem, font, glass);
+    }
+    p
 }
 
 // Says which line can't be read.
@@ -74,10 +107,8 @@ fn write_glass(glass: &[u8], lines: u64) {
 fn show(text: &[u8], own: &[u8], glass: &mut [u8]) {
     let mut mem = io::buffer();
     let mut font = io::buffer();
-    let mut piece = io::large_buffer();
-    let mut out = io::buffer();
     let run = begin(own, &mut mem, &mut font, glass);
-    let p = play(text, run, &mut mem, &mut font, glass, &mut piece, &mut out);
+    let p = play(text, run, &mut mem, &mut font, glass);
     if p.ok {
         write_glass(glass, p.lines);
         return;
