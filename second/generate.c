@@ -1,6 +1,7 @@
 /* Writes scripts (docs/SCRIPTS.md) by chance: `generate SEED COUNT`
  * writes COUNT streams to standard output, and `generate SEED COUNT PART`
- * streams with a PARTth of the bytes. The same seed writes the same script
+ * streams with a PARTth of the bytes; `generate bounds` every bound of a
+ * state, in and out. The same seed writes the same script
  * everywhere. The streams' bytes are made by streams.h. */
 #include "streams.h"
 
@@ -547,11 +548,63 @@ static void stream(void)
     write_closing();
 }
 
+/* ------------------------------------------------------------------------
+ * Every bound, in and out, with no chance in it
+ * --------------------------------------------------------------------- */
+
+/* A fresh panel with one field spoiled: every call that tests a state. */
+static void bound(const char *spoiled, const char *record)
+{
+    printf("new\nstart\nspoil %s %s\nfeed 41\nrefresh\nhold 1\nrelease\nsum\n", spoiled, record);
+}
+
+/* The same while window 1 is held, for what the release puts back. */
+static void bound_held(const char *spoiled, const char *record)
+{
+    printf("new\nstart\nspoil window 1 20 0 30 2 1 1 2\nhold 1\nspoil %s %s\nfeed 41\nrelease\nsum\n", spoiled, record);
+}
+
+#define BOUND_EACH(spoiled, list) \
+    for (size_t i = 0; i < sizeof(list) / sizeof((list)[0]); i++) \
+    bound(spoiled, (list)[i])
+
+static void bounds(void)
+{
+    static const char *const numbers[] = {"0", "1", "2", "4", "5", "255"};
+    char spoiled[32], record[32];
+    puts("# generate bounds");
+    for (size_t i = 0; i < sizeof setting_bounds / sizeof setting_bounds[0]; i++)
+        for (unsigned j = 0; j < setting_bounds[i].count; j++) {
+            snprintf(record, sizeof record, "%s %u", setting_bounds[i].key, setting_bounds[i].values[j]);
+            bound("set", record);
+            bound_held("saved", record);
+        }
+    for (unsigned k = 1; k <= 4; k += 3) {
+        snprintf(spoiled, sizeof spoiled, "window %u", k);
+        BOUND_EACH(spoiled, window_records);
+    }
+    BOUND_EACH("base", base_records);
+    BOUND_EACH("selected", numbers);
+    BOUND_EACH("span 0", span_records);
+    BOUND_EACH("span 1", span_records);
+    BOUND_EACH("half", half_records);
+    for (size_t i = 0; i < sizeof numbers / sizeof numbers[0]; i++) {
+        snprintf(record, sizeof record, "%s 0", numbers[i]);
+        bound_held("held", record);
+        snprintf(record, sizeof record, "1 %s", numbers[i]);
+        bound_held("held", record);
+    }
+}
+
 int main(int argc, char **argv)
 {
     char *end;
+    if (argc == 2 && strcmp(argv[1], "bounds") == 0) {
+        bounds();
+        return fflush(stdout) == 0 ? 0 : 1;
+    }
     if (argc != 3 && argc != 4) {
-        fputs("usage: generate SEED COUNT [PART]\n", stderr);
+        fputs("usage: generate SEED COUNT [PART] | generate bounds\n", stderr);
         return 2;
     }
     uint64_t seed = strtoull(argv[1], &end, 10);
