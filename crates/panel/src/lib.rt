@@ -9,6 +9,7 @@ use paper::Hold;
 use paper::Outcome;
 use paper::Refreshed;
 use paper::Refusal;
+use paper::Settings;
 use paper::Span;
 use paper::State;
 ghost use mathlib.Core.Path.{_≡_};
@@ -138,6 +139,40 @@ fn feed_all(g: Geometry, mem: &mut [u8], font: &[u8], piece: &[u8], s: State) ->
     f
 }
 
+// The same state, what is saved in it taken apart and put together again: so the compiler sees fields that the loop over a piece
+// leaves alone, and not a block to be copied with each byte.
+fn apart(s: State) -> State
+    ensures { λ r. ⌜ r ≡ s ⌝ }
+{
+    let h = s.hold;
+    match h {
+        Hold::Free => s,
+        Hold::Held {
+            window,
+            selected,
+            settings,
+        } => {
+            let style = settings.style;
+            let again = Settings {
+                charset: settings.charset,
+                codes: settings.codes,
+                shown: settings.shown,
+                brightness: settings.brightness,
+                speed: settings.speed,
+                width: settings.width,
+                write: settings.write,
+                style,
+            };
+            let hold = Hold::Held {
+                window,
+                selected,
+                settings: again,
+            };
+            State { hold, ..s }
+        }
+    }
+}
+
 // A piece of the stream. 1: the memory is not 1,024 bytes; 2: the font is not 1,120; 8: the state breaks a bound.
 pub fn feed(mem: &mut [u8], font: &[u8], piece: &[u8], s: State) -> Fed
     ensures { λ r. ⌜ fed r (now (mem .exit)) ≡ feedCall panel (now (font .entry)) s (now (mem .entry)) (now (piece .entry)) ⌝ }
@@ -150,7 +185,7 @@ pub fn feed(mem: &mut [u8], font: &[u8], piece: &[u8], s: State) -> Fed
         return fed_nothing(Refusal::FontLength, s);
     }
     if accept::is_accepted(g, s) {
-        return feed_all(g, mem, font, piece, s);
+        return feed_all(g, mem, font, piece, apart(s));
     }
     fed_nothing(Refusal::BrokenState, s)
 }
