@@ -1,5 +1,7 @@
 // Feeds a recorded stream to a fresh panel and writes its glass: drawn with half blocks, or as a PBM file, as the arguments ask.
 // Standard input has the font's 1,120 bytes and then the stream. The glass is what one refresh brings.
+ghost use Rattle.paper.specs.Panel.{panel};
+ghost use Rattle.show.specs.Shown.{Shows, fedFresh, shownFresh};
 use paper::Half;
 
 // What became of a stream: commands carried out, those answered 11 to 17, bytes moved, and whether a command is half read.
@@ -14,14 +16,15 @@ fn is_some(h: Half) -> bool {
     if let Half::Nothing = h { false } else { true }
 }
 
-// Plays a stream on a fresh panel and refreshes the glass.
-fn play(font: &[u8], stream: &[u8], glass: &mut [u8]) -> Counts {
-    let mut mem = [0u8; 1024];
-    let a = viewer::start(&mut mem);
+// Plays a stream on a fresh panel and refreshes the glass: its counts and its dots are document 01's.
+fn play(font: &[u8], stream: &[u8], mem: &mut [u8], glass: &mut [u8]) -> Counts
+    ensures { λ r. ⌜ Shows (fedFresh panel (now (font .entry)) (now (mem .entry)) (now (stream .entry))) (shownFresh panel (now (font .entry)) (now (mem .entry)) (now (stream .entry)) (now (glass .entry))) r (now (glass .exit)) ⌝ }
+{
+    let a = viewer::start(mem);
     let fresh = a.state;
-    let f = viewer::feed(&mut mem, font, stream, fresh);
+    let f = viewer::feed(mem, font, stream, fresh);
     let fed = f.state;
-    let r = viewer::refresh(&mem, glass, fed);
+    let r = viewer::refresh(mem, glass, fed);
     let h = fed.half;
     Counts {
         carried: f.carried,
@@ -51,9 +54,10 @@ fn put_end(out: &mut [u8], at: usize, half: bool) -> usize {
 
 // Plays a stream and writes what became of it.
 fn show(font: &[u8], stream: &[u8]) {
+    let mut mem = [0u8; 1024];
     let mut glass = [0u8; 224];
     let mut note = [0u8; 256];
-    let c = play(font, stream, &mut glass);
+    let c = play(font, stream, &mut mem, &mut glass);
     let n = put_note(&mut note, c);
     viewer::present(&glass, words::part(&note, 0, n));
 }
