@@ -1,7 +1,7 @@
 // The pictures that were read: a place for each code 20h to FFh and one for all others, six bytes each: five columns, and
 // whether the place has its picture.
 ghost use mathlib.Core.Path.{_≡_};
-ghost use Prim.Native.Nat.{_≤_, _<_};
+ghost use Prim.Native.Nat.{_<_};
 ghost use lib.ListN.{length};
 use crate::glyph;
 

@@ -3,7 +3,7 @@
 ghost use mathlib.Core.Path.{_≡_};
 ghost use Prim.Native.Nat.{_+_, _*_, _≤_, _<_};
 ghost use lib.ListN.{length};
-ghost use Rattle.paper.specs.Panel.{panel, glassLength, lit};
+ghost use Rattle.paper.specs.Panel.{panel, lit};
 ghost use Rattle.picture.specs.Picture.{glassDot, blockOf, pbmByte};
 
 const COLUMNS: usize = 112;
