@@ -54,7 +54,7 @@ void expect(struct run *run, const char *text, size_t length)
     length = without_blanks(text, length);
     if (length == 0)
         fail(&run->line, "a text is missing");
-    if (run->silent)
+    if (run->unheld)
         return;
     if (run->held_to == run->written.length) {
         complain(run, nothing, strlen(nothing), text, length);

@@ -1,7 +1,8 @@
 /* Plays a script (docs/SCRIPTS.md) on the panel that it is linked with, over
  * the five calls of include/panel.h. The script is read on standard input.
  *   play              writes what each call answers
- *   play calls OUT    writes that, and to OUT the calls as bytes
+ *   play calls OUT    writes to OUT the calls as bytes, and what crates/replay
+ *                     is to write when it plays them
  *   play glass FONT   writes the glass at the script's end, 224 bytes, and a
  *                     line with how much was played: its world begins with the
  *                     font of 1,120 bytes in FONT; `=` lines are not held
@@ -72,14 +73,15 @@ static void write_glass(const struct run *run)
     printf("%lu lines of the script played\n", run->line.number);
 }
 
-static void write_calls(const struct text *bytes, const char *name)
+static void write_calls(const struct calls *calls, const char *name)
 {
     FILE *file = fopen(name, "wb");
     if (file == NULL)
         die(name, "can't be opened");
-    fwrite(bytes->bytes, 1, bytes->length, file);
+    fwrite(calls->bytes.bytes, 1, calls->bytes.length, file);
     if (ferror(file) | fclose(file))
         die(name, "can't be written");
+    printf("%lu calls played, no difference\n", calls->count);
 }
 
 int main(int argc, char **argv)
@@ -90,7 +92,8 @@ int main(int argc, char **argv)
     if (argc != 1 && !calls && !glass)
         die("usage", "play [calls OUT | glass FONT] <SCRIPT");
     run.world.calls.wanted = calls;
-    run.silent = glass;
+    run.silent = calls || glass;
+    run.unheld = glass;
     new_world(&run.world);
     if (glass)
         read_font(&run.world, argv[2]);
@@ -98,7 +101,7 @@ int main(int argc, char **argv)
     if (glass)
         write_glass(&run);
     if (calls)
-        write_calls(&run.world.calls.bytes, argv[2]);
+        write_calls(&run.world.calls, argv[2]);
     free(run.line.words);
     free(run.piece.bytes);
     free(run.written.bytes);

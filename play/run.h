@@ -12,7 +12,8 @@ struct run {
     struct text written; /* what the last command wrote */
     size_t held_to;      /* how much of that `=` lines have spoken of */
     bool differs;        /* an `=` line did not hold */
-    bool silent;         /* answers are not written, `=` lines not held */
+    bool silent;         /* answers are not written */
+    bool unheld;         /* `=` lines are not held */
 };
 
 /* Plays the line's words, if it has any: commands.c. */

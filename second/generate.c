@@ -125,8 +125,9 @@ static void write_cut(size_t at, unsigned each_once_in)
 static void write_opening(void)
 {
     puts("new");
-    if (once_in(5))
-        printf("font seed %u\n", (unsigned)(draw() >> 32));
+    if (once_in(5)) /* one of 16, since the stored calls have each font whole */
+        printf("font seed %u\n",
+               (unsigned)(UINT32_C(2654435769) * (draw() >> 60)));
     puts("start");
     if (!once_in(8))
         puts("refresh");

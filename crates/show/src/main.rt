@@ -36,20 +36,20 @@ fn play(font: &[u8], stream: &[u8], mem: &mut [u8], glass: &mut [u8]) -> Counts
 
 // The line below the glass.
 fn put_note(out: &mut [u8], c: Counts) -> usize {
-    let at = print::decimal(out, 0, c.carried as u64);
-    let at = print::text(out, at, b" commands carried out, ");
-    let at = print::decimal(out, at, c.answered as u64);
-    let at = print::text(out, at, b" answered 11 to 17, ");
-    let at = print::decimal(out, at, c.moved as u64);
-    let at = print::text(out, at, b" bytes moved to the glass");
+    let at = view_text::decimal(out, 0, c.carried as u64);
+    let at = view_text::text(out, at, b" commands carried out, ");
+    let at = view_text::decimal(out, at, c.answered as u64);
+    let at = view_text::text(out, at, b" answered 11 to 17, ");
+    let at = view_text::decimal(out, at, c.moved as u64);
+    let at = view_text::text(out, at, b" bytes moved to the glass");
     put_end(out, at, c.half)
 }
 
 fn put_end(out: &mut [u8], at: usize, half: bool) -> usize {
     if half {
-        return print::text(out, at, b"; a command is half read\n");
+        return view_text::text(out, at, b"; a command is half read\n");
     }
-    print::end(out, at)
+    view_text::end(out, at)
 }
 
 // Plays a stream and writes what became of it.
@@ -59,7 +59,7 @@ fn show(font: &[u8], stream: &[u8]) {
     let mut note = [0u8; 256];
     let c = play(font, stream, &mut mem, &mut glass);
     let n = put_note(&mut note, c);
-    viewer::present(&glass, words::part(&note, 0, n));
+    viewer::present(&glass, view_text::part(&note, 0, n));
 }
 
 fn main() {
@@ -70,6 +70,6 @@ fn main() {
     }
     let input = viewer::read_rest(&mut room);
     if input.ok {
-        show(&font, words::part(&room, 0, input.bytes));
+        show(&font, view_text::part(&room, 0, input.bytes));
     }
 }

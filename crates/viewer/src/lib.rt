@@ -1,4 +1,4 @@
-// What the viewer's programs share: the font and then a stream or a script on standard input, the words of the arguments, the
+// What the viewer's programs share: the font and then a stream on standard input, or a glass; the words of the arguments, the
 // panel's calls, the glass on standard output, complaints on standard error. A program that complains writes nothing else.
 // It uses the panel, the glass as a picture, the numbers of refusals, and the kit's input and output.
 mod calls;
@@ -18,17 +18,25 @@ pub fn complain(text: &[u8]) {
     io::write_all(STDERR_FILENO, b"\n");
 }
 
-// Fills the font from the input, and answers whether all of it has come.
-pub fn read_font(font: &mut [u8]) -> bool {
-    let n = io::read_full(STDIN_FILENO, font);
-    if n == font.len() {
+// Fills a buffer from the input, and answers whether all of it has come.
+fn read_whole(to: &mut [u8], complaint: &[u8]) -> bool {
+    let n = io::read_full(STDIN_FILENO, to);
+    if n == to.len() {
         return true;
     }
-    complain(b"the input begins with no font of 1120 bytes");
+    complain(complaint);
     false
 }
 
-// Room for the longest stream or script, and a byte more.
+pub fn read_font(font: &mut [u8]) -> bool {
+    read_whole(font, b"the input begins with no font of 1120 bytes")
+}
+
+pub fn read_glass(glass: &mut [u8]) -> bool {
+    read_whole(glass, b"the input begins with no glass of 224 bytes")
+}
+
+// Room for the longest stream, and a byte more.
 pub fn room() -> [u8; 1048577]
     ensures { λ r. ⌜ 1048577 ≡ length r ⌝ }
 {
@@ -60,7 +68,7 @@ fn write_drawn(glass: &[u8], note: &[u8])
 {
     let mut out = [0u8; 4096];
     let n = picture::draw(&mut out, glass);
-    io::write_all(STDOUT_FILENO, words::part(&out, 0, n));
+    io::write_all(STDOUT_FILENO, view_text::part(&out, 0, n));
     io::write_all(STDOUT_FILENO, note);
 }
 
@@ -70,7 +78,7 @@ fn write_pbm(glass: &[u8])
 {
     let mut out = [0u8; 256];
     let n = picture::pbm(&mut out, glass);
-    io::write_all(STDOUT_FILENO, words::part(&out, 0, n));
+    io::write_all(STDOUT_FILENO, view_text::part(&out, 0, n));
 }
 
 // Writes the glass as a word asks: `draw` or `pbm`.
