@@ -40,6 +40,7 @@ use Rattle.demands.specs.Events.{Event, piece, refresh, joined, Play, re
 use Rattle.demands.specs.Demands.{holdNumber, InStep, RefreshedAt, Served}
 use Rattle.demands.proofs.Calls.{hold-answers}
 use Rattle.demands.proofs.Unseen.{run-same, run-state, run-mem, run-spans}
+use Rattle.demands.proofs.Counts.{spanned-shown}
 
 -- ---- a play that goes on from another
 
@@ -81,6 +82,13 @@ module _ (g : Geometry) where
     passes (refresh ∷ a) b s m glass =
         let r = refreshCall g s m glass in
         ap (refreshedThen (r .answer .refusal) (r .answer .moved)) (passes a b (r .answer .state) m (r .glass))
+
+    -- as many spans as rows, after any events
+    since-count : (events : List Event) (q : State) (since : List Stroke)
+        → length (spansSince g font q since events) ≡ g .rows
+    since-count [] q since = span-count since
+    since-count (piece bs ∷ es) q since = since-count es (onwards g font q bs) (since ++ strokesOf g font q bs)
+    since-count (refresh ∷ es) q since = since-count es q []
 
     -- no refresh owes more than the glass has
     owed-most : (events : List Event) (q : State) (since : List Stroke) (i : ℕ)
@@ -286,12 +294,16 @@ module _ (g : Geometry) (u : Usable g) (font : List ℕ) (k back : ℕ) (v : Set
         only =
             rw next-refresh
             (record {
+              size = refreshed-length g (p .mem) since (p .glass);
               copied = λ n l held. refreshed-in g (p .mem) since (p .glass) n (omega arith) (covered-facts g since n (rw held tt));
               kept = λ n l out.
                   refreshed-out g (p .mem) since (p .glass) n (omega arith)
                   (λ c. not-both (covered g since n) out (covered-test g since n c));
             });
-        count = ap (λ (r : Refreshing). r .answer .moved) next-refresh;
+        number =
+            ap (λ (r : Refreshing). r .answer .moved) next-refresh
+            ∙ sym (spanned-shown g since (since-count g font events s []));
+        sum = ap (λ (r : Refreshing). r .answer .moved) next-refresh;
       }
 
 module _ (g : Geometry) (u : Usable g) (font : List ℕ) (k back : ℕ) (v : Settings) (s : State) (m glass : List ℕ)

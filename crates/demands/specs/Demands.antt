@@ -1,9 +1,9 @@
 -- The three demands on the five calls, sentence by sentence. proofs/Demands shows each of them. Assumes nothing.
 use mathlib.Core.Path.{_≡_}
 use mathlib.Core.Logic.{_↔_, _≢_, _⊎_}
-use mathlib.Core.Bool.{Bool, true, false, _&&_, _||_}
+use mathlib.Core.Bool.{Bool, true, false, cond, _&&_, _||_}
 use mathlib.Core.List.{List, [], _∷_, _++_}
-use Prim.Native.Nat.{ℕ, _+_, _<_, _≤_}
+use Prim.Native.Nat.{ℕ, zero, suc, _+_, _<_, _≤_}
 use lib.Dec.{eqb}
 use lib.ListN.{length, getD, replicate}
 use Rattle.paper.specs.declared.Geometry.{Geometry}
@@ -266,14 +266,20 @@ pub record InStep (g : Geometry) (font : List ℕ) (k back : ℕ) (v : Settings)
   pub memory : length m ≡ memoryLength g
   pub fonts : length font ≡ fontLength
 
--- from glass `was` came glass `is` by a copy of what the spans ps hold of memory m
+-- the span of an address's row holds its column
+abbrev pub inSpans : Geometry → List Span → ℕ → Bool
+inSpans g ps a = spanHolds (getD ps (rowOf g a) noSpan) (columnOf g a)
+
+-- how many of the addresses below n are in the spans
+abbrev pub spannedBelow : Geometry → List Span → ℕ → ℕ
+spannedBelow g ps zero = 0
+spannedBelow g ps (suc a) = spannedBelow g ps a + cond (inSpans g ps a) 1 0
+
+-- from glass `was` came glass `is`: "Refresh copies each span's visible columns, changes no other glass byte"
 pub record CopiedOnly (g : Geometry) (ps : List Span) (m was is : List ℕ) : Type 0 where
-  -- "Refresh copies each span's visible columns"
-  pub copied : (a : ℕ) → a < glassLength g → spanHolds (getD ps (rowOf g a) noSpan) (columnOf g a) ≡ true
-      → getD is a 0 ≡ getD m a 0
-  -- "changes no other glass byte"
-  pub kept : (a : ℕ) → a < glassLength g → spanHolds (getD ps (rowOf g a) noSpan) (columnOf g a) ≡ false
-      → getD is a 0 ≡ getD was a 0
+  pub size : length is ≡ length was
+  pub copied : (a : ℕ) → a < glassLength g → inSpans g ps a ≡ true → getD is a 0 ≡ getD m a 0
+  pub kept : (a : ℕ) → a < glassLength g → inSpans g ps a ≡ false → getD is a 0 ≡ getD was a 0
 
 -- a refresh of a whole play, which answered r, moved n bytes and left this glass: b is the play before it and rest the play after
 -- it, and ps are the spans written since the refresh before it
@@ -283,8 +289,9 @@ pub record RefreshedAt {S A : Type 0} (g : Geometry) (ps : List Span) (b : Play 
   pub place : whole ≡ followed b (refreshedThen r n rest)
   -- "each refresh moved only the spans written since the one before"
   pub only : CopiedOnly g ps (b .mem) (b .glass) glass
-  -- "reports the number of bytes moved, which is the sum of the visible span lengths"
-  pub count : n ≡ shownAll g ps
+  -- "and reports the number of bytes moved, which is the sum of the visible span lengths": both
+  pub number : n ≡ spannedBelow g ps (glassLength g)
+  pub sum : n ≡ shownAll g ps
 
 -- p is what the pieces and refreshes come to, one is what the joined bytes come to, fed at once, and last is p with one more
 -- refresh

@@ -24,7 +24,7 @@ use Rattle.codec.specs.Record.{stateOf}
 use Rattle.panel_c.specs.Face.{recordAfter, StartingC, startC, FeedingC, feedC, CallingC, holdC, releaseC, RefreshingC, refreshC}
 use Rattle.panel_c.proofs.Laws.{feed-stands}
 use Rattle.demands_c.specs.Demands.{StartAnswersC, NothingFedC, FeedAnswersC, HoldAnswersC, ReleaseAnswersC, RefreshAnswersC, PieceFedC}
-use Rattle.demands_c.proofs.Records.{record-length, no-record}
+use Rattle.demands_c.proofs.Records.{record-length, no-state}
 
 -- ---- a call's answer is 100 or document 01's
 
@@ -115,7 +115,7 @@ module _ (l m font bytes : List ℕ) where
         number-100 = row-100 l p e ns (a .listed) refl;
         number-1 = row l p e 1 refl (a .number-1);
         number-2 = row l p e 2 refl (a .number-2);
-        number-8 = row l p e 8 refl (Iff·trans (a .number-8) (Iff·and Iff·rfl (Iff·and Iff·rfl (no-record l))));
+        number-8 = row l p e 8 refl (Iff·trans (a .number-8) (Iff·and Iff·rfl (Iff·and Iff·rfl (no-state l))));
         number-0 = row l p e 0 refl (a .number-0);
         refused =
             by-cond (λ (q : FeedingC). q .answer .answer ≢ 0 → NothingFedC l m q) (isNot 103 l)
@@ -148,7 +148,7 @@ module _ (l : List ℕ) (k : ℕ) where
       record {
         listed = all-listed l p e ns (a .listed);
         number-100 = row-100 l p e ns (a .listed) refl;
-        number-8 = row l p e 8 refl (Iff·trans (a .number-8) (no-record l));
+        number-8 = row l p e 8 refl (Iff·trans (a .number-8) (no-state l));
         number-6 = row l p e 6 refl (a .number-6);
         number-4 = row l p e 4 refl (a .number-4);
         number-5 = row l p e 5 refl (a .number-5);
@@ -177,7 +177,7 @@ module _ (l : List ℕ) where
       record {
         listed = all-listed l p e ns (a .listed);
         number-100 = row-100 l p e ns (a .listed) refl;
-        number-8 = row l p e 8 refl (Iff·trans (a .number-8) (no-record l));
+        number-8 = row l p e 8 refl (Iff·trans (a .number-8) (no-state l));
         number-7 = row l p e 7 refl (a .number-7);
         number-0 = row l p e 0 refl (a .number-0);
         refused =
@@ -206,7 +206,7 @@ module _ (l m glass : List ℕ) where
         number-100 = row-100 l p e ns (a .listed) refl;
         number-1 = row l p e 1 refl (a .number-1);
         number-3 = row l p e 3 refl (a .number-3);
-        number-8 = row l p e 8 refl (Iff·trans (a .number-8) (Iff·and Iff·rfl (Iff·and Iff·rfl (no-record l))));
+        number-8 = row l p e 8 refl (Iff·trans (a .number-8) (Iff·and Iff·rfl (Iff·and Iff·rfl (no-state l))));
         number-0 = row l p e 0 refl (a .number-0);
         refused =
             by-cond

@@ -168,16 +168,16 @@ module _ (font : List ℕ) (k back : ℕ) (v : Settings) (l m glass : List ℕ) 
             let paper : refreshCall panel (stateOf (p .state)) (p .mem) (p .glass)
             ≡ (let q = play panel font (stateOf l) m glass before in refreshCall panel (q .state) (q .mem) (q .glass)) =
             rw (b .state, b .mem, b .glass) in
+            let moved =
+            ap (λ (t : RefreshingC). t .answer .moved) r ∙ ap (λ (t : Refreshing). t .answer .moved) paper in
             record {
               place = rw e (passes-C font before (refresh ∷ after) l m glass);
               only =
                   copied-same _ (b .mem) (b .glass)
                   (ap (λ (t : RefreshingC). t .glass) r ∙ ap (λ (t : Refreshing). t .glass) paper)
                   (at .only);
-              count =
-                  ap (λ (t : RefreshingC). t .answer .moved) r
-                  ∙ ap (λ (t : Refreshing). t .answer .moved) paper
-                  ∙ at .count;
+              number = moved ∙ at .number;
+              sum = moved ∙ at .sum;
             };
         moved = same .moved ∙ served .moved;
         most = λ n. rw (same .moved) (served .most n);

@@ -22,7 +22,7 @@ use Rattle.encoder.specs.Bytes.{windowsBytes, tailBytes, encoded}
 use Rattle.encoder.proofs.Laid.{encoded-length}
 use Rattle.codec.specs.Record.{stateOf}
 use Rattle.codec.proofs.Back.{read-back, accepted-record, other-bytes}
-use Rattle.demands_c.specs.Demands.{NoRecord}
+use Rattle.panel_c.proofs.Laws.{NoState}
 
 -- ---- a record has four windows and two spans, and no more of a state is ever tested
 
@@ -95,8 +95,8 @@ pub record-length : (l : List ℕ) → accepted panel (stateOf l) ≡ true → l
 record-length l h = ap length (accepted-record panel l h) ∙ encoded-length (stateOf l)
 
 -- and is its record: number 8
-pub no-record : (l : List ℕ) → (accepted panel (stateOf l) ≡ false) ↔ NoRecord l
-no-record l = (
+pub no-state : (l : List ℕ) → (accepted panel (stateOf l) ≡ false) ↔ NoState l
+no-state l = (
   λ e s h r.
       true≢false
       (sym (trimmed-accepted s h) ∙ ap (accepted panel) (sym (trimmed-back s) ∙ ap stateOf (sym r)) ∙ e),

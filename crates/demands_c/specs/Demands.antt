@@ -7,7 +7,6 @@ use mathlib.Core.List.{List, [], _∷_, _++_}
 use Prim.Native.Nat.{ℕ, _≤_}
 use lib.ListN.{length, getD, replicate}
 use Rattle.paper.specs.declared.Settings.{Settings}
-use Rattle.paper.specs.declared.State.{State}
 use Rattle.paper.specs.Panel.{panel}
 use Rattle.paper.specs.Strokes.{applyAll, refreshed, shownAll}
 use Rattle.paper.specs.Numbers.{outcomeNumber}
@@ -24,16 +23,14 @@ use Rattle.demands.specs.Demands.{oneOf, InStep, RefreshedAt}
 use Rattle.encoder.specs.Bytes.{encoded}
 use Rattle.codec.specs.Record.{stateOf}
 use Rattle.panel_c.specs.Face.{startC, FeedingC, feedC, holdC, releaseC, RefreshingC, refreshC}
+use Rattle.panel_c.proofs.Laws.{NoState}
 use Rattle.demands_c.specs.Plays.{PlayC, playC}
 
 -- ==== DEMAND 1. "Any bytes, buffers and state record may be handed in. Each call answers or refuses by document 01's numbers,
 -- in its order. A refused call changes no lent byte and hands the state back unchanged."
 -- Every number is given exactly when its row holds and none that is tested before it does; 0 is a call that is not refused.
 -- 100 is tested first: the caller's buffer for the record is not 103 bytes long, for which document 01 has no number.
-
--- 8: "state record breaks a bound of this paper": the bytes are no accepted state's record
-abbrev pub NoRecord : List ℕ → Type 0
-NoRecord l = (s : State) → accepted panel s ≡ true → l ≢ encoded s
+-- `NoState l`: the bytes are no accepted state's record.
 
 -- ---- "Start: 1."
 
@@ -71,7 +68,7 @@ pub record FeedAnswersC (l m font bytes : List ℕ) : Type 0 where
       ↔ ((length l ≡ 103) × ((length m ≡ 1024) × (length font ≢ 1120)))
   -- 8: "state record breaks a bound of this paper"
   pub number-8 : (feedC l m font bytes .answer .answer ≡ 8)
-      ↔ ((length l ≡ 103) × ((length m ≡ 1024) × ((length font ≡ 1120) × NoRecord l)))
+      ↔ ((length l ≡ 103) × ((length m ≡ 1024) × ((length font ≡ 1120) × NoState l)))
   pub number-0 : (feedC l m font bytes .answer .answer ≡ 0)
       ↔ ((length l ≡ 103) × ((length m ≡ 1024) × ((length font ≡ 1120) × (accepted panel (stateOf l) ≡ true))))
   pub refused : feedC l m font bytes .answer .answer ≢ 0 → NothingFedC l m (feedC l m font bytes)
@@ -82,7 +79,7 @@ pub record HoldAnswersC (l : List ℕ) (k : ℕ) : Type 0 where
   pub listed : oneOf (100 ∷ 0 ∷ 8 ∷ 6 ∷ 4 ∷ 5 ∷ []) (holdC l k .answer) ≡ true
   pub number-100 : (holdC l k .answer ≡ 100) ↔ (length l ≢ 103)
   -- 8: "state record breaks a bound of this paper"
-  pub number-8 : (holdC l k .answer ≡ 8) ↔ ((length l ≡ 103) × NoRecord l)
+  pub number-8 : (holdC l k .answer ≡ 8) ↔ ((length l ≡ 103) × NoState l)
   -- 6: "hold while held"
   pub number-6 : (holdC l k .answer ≡ 6)
       ↔ ((length l ≡ 103) × ((accepted panel (stateOf l) ≡ true) × (isHeld (stateOf l .hold) ≡ true)))
@@ -107,7 +104,7 @@ pub record ReleaseAnswersC (l : List ℕ) : Type 0 where
   pub listed : oneOf (100 ∷ 0 ∷ 8 ∷ 7 ∷ []) (releaseC l .answer) ≡ true
   pub number-100 : (releaseC l .answer ≡ 100) ↔ (length l ≢ 103)
   -- 8: "state record breaks a bound of this paper"
-  pub number-8 : (releaseC l .answer ≡ 8) ↔ ((length l ≡ 103) × NoRecord l)
+  pub number-8 : (releaseC l .answer ≡ 8) ↔ ((length l ≡ 103) × NoState l)
   -- 7: "release while not held"
   pub number-7 : (releaseC l .answer ≡ 7)
       ↔ ((length l ≡ 103) × ((accepted panel (stateOf l) ≡ true) × (isHeld (stateOf l .hold) ≡ false)))
@@ -129,7 +126,7 @@ pub record RefreshAnswersC (l m glass : List ℕ) : Type 0 where
       ↔ ((length l ≡ 103) × ((length m ≡ 1024) × (length glass ≢ 224)))
   -- 8: "state record breaks a bound of this paper"
   pub number-8 : (refreshC l m glass .answer .answer ≡ 8)
-      ↔ ((length l ≡ 103) × ((length m ≡ 1024) × ((length glass ≡ 224) × NoRecord l)))
+      ↔ ((length l ≡ 103) × ((length m ≡ 1024) × ((length glass ≡ 224) × NoState l)))
   pub number-0 : (refreshC l m glass .answer .answer ≡ 0)
       ↔ ((length l ≡ 103) × ((length m ≡ 1024) × ((length glass ≡ 224) × (accepted panel (stateOf l) ≡ true))))
   -- the record and the glass stay, and the count is 0
