@@ -23,13 +23,13 @@ fn tell(stream: &[u8], from: usize, next: usize, o: Outcome, s: State) -> usize 
 
 // Feeds the stream.
 fn trace(font: &[u8], stream: &[u8], mem: &mut [u8]) {
-    let a = viewer::start(mem);
+    let a = panel::start(mem);
     let mut state = a.state;
     let mut from = 0;
     let mut i = 0;
     while i < stream.len() {
         let next = i + 1;
-        let f = viewer::feed(mem, font, &stream[i..next], state);
+        let f = panel::feed(mem, font, &stream[i..next], state);
         let o = f.outcome;
         state = f.state;
         from = tell(stream, from, next, o, state);
