@@ -8,37 +8,37 @@ use Rattle.paper.specs.declared.Command.{Command}
 use Rattle.paper.specs.declared.Outcome.{Outcome}
 use Rattle.paper.specs.declared.Outcome.the-variants.{OutOfDomain, NotCarried, WindowHeld, TooLarge, NotDefined}
 use Rattle.paper.specs.declared.State.{State}
-use Rattle.paper.specs.Carry.{Meaning, means, notCarried, isHeld, ownersOnly, outOfDomain, notDefined, cellExceeds, carriedOut, answers, commandOf}
+use Rattle.paper.specs.Carry.{Meaning, means, askedOf, isHeld, carriedOut, answers, commandOf}
 use Rattle.kept.proofs.Cases.{Allowed}
 use Rattle.commands.specs.declared.Done.{Done}
 use Rattle.commands.specs.Says.{Says, done}
 
 module _ (g : Geometry) (font : List ℕ) (s : State) (c : Command) where
   -- a command that is not carried
-  pub is-14 : notCarried c ≡ true → commandOf g font s c ≡ answers s NotCarried
+  pub is-14 : askedOf g s c .notCarried ≡ true → commandOf g font s c ≡ answers s NotCarried
   unfolding commandOf
   is-14 a = rw a
 
   -- an owner's command while a window is held
-  pub is-15 : notCarried c ≡ false → (ownersOnly c && isHeld (s .hold)) ≡ true → commandOf g font s c ≡ answers s WindowHeld
+  pub is-15 : askedOf g s c .notCarried ≡ false → (askedOf g s c .ownersOnly && isHeld (s .hold)) ≡ true → commandOf g font s c ≡ answers s WindowHeld
   unfolding commandOf
   is-15 a b = rw (a, b)
 
   -- a parameter out of its domain
-  pub is-11 : notCarried c ≡ false → (ownersOnly c && isHeld (s .hold)) ≡ false → outOfDomain g s c ≡ true
+  pub is-11 : askedOf g s c .notCarried ≡ false → (askedOf g s c .ownersOnly && isHeld (s .hold)) ≡ false → askedOf g s c .outOfDomain ≡ true
       → commandOf g font s c ≡ answers s OutOfDomain
   unfolding commandOf
   is-11 a b d = rw (a, b, d)
 
   -- a window that is not defined
-  pub is-17 : notCarried c ≡ false → (ownersOnly c && isHeld (s .hold)) ≡ false → outOfDomain g s c ≡ false
-      → notDefined s c ≡ true → commandOf g font s c ≡ answers s NotDefined
+  pub is-17 : askedOf g s c .notCarried ≡ false → (askedOf g s c .ownersOnly && isHeld (s .hold)) ≡ false → askedOf g s c .outOfDomain ≡ false
+      → askedOf g s c .notDefined ≡ true → commandOf g font s c ≡ answers s NotDefined
   unfolding commandOf
   is-17 a b d e = rw (a, b, d, e)
 
   -- a cell that exceeds the range
-  pub is-16 : notCarried c ≡ false → (ownersOnly c && isHeld (s .hold)) ≡ false → outOfDomain g s c ≡ false
-      → notDefined s c ≡ false → cellExceeds g s c ≡ true → commandOf g font s c ≡ answers s TooLarge
+  pub is-16 : askedOf g s c .notCarried ≡ false → (askedOf g s c .ownersOnly && isHeld (s .hold)) ≡ false → askedOf g s c .outOfDomain ≡ false
+      → askedOf g s c .notDefined ≡ false → askedOf g s c .tooLarge ≡ true → commandOf g font s c ≡ answers s TooLarge
   unfolding commandOf
   is-16 a b d e f = rw (a, b, d, e, f)
 

@@ -20,7 +20,7 @@ use Rattle.paper.specs.Strokes.{applyAll, markAll}
 use Rattle.paper.specs.Reading.{readOf}
 use Rattle.paper.specs.Settings.{withHalf, withSpans, cancelled, cursorOf, atCursor, inMode, insideWindow, viewOf, cursorIn}
 use Rattle.paper.specs.Moves.{Moved, htOf, characterOf, lineFeedOf, clearOf}
-use Rattle.paper.specs.Carry.{Meaning, means, moves, becomes, isHeld, notCarried, ownersOnly, outOfDomain, notDefined, cellExceeds, widthNow, heightNow, carriedOut, answers, commandOf, imageStrokes, takeOf, byteMeans}
+use Rattle.paper.specs.Carry.{Meaning, means, moves, becomes, isHeld, askedOf, widthNow, heightNow, carriedOut, answers, commandOf, imageStrokes, takeOf, byteMeans}
 use Rattle.paper.specs.Calls.{Feeding, feeding, settled, counted, next, run}
 use Rattle.dots.proofs.Strokes.{apply-append}
 use Rattle.dots.proofs.Spans.{marks-append}
@@ -61,9 +61,9 @@ module _ (ps : List Span) (s : State) where
   module _ (g : Geometry) where
     -- what 11, 17 and 16 test
     tests-same : (c : Command)
-        → (outOfDomain g (withSpans s ps) c ≡ outOfDomain g s c) × (notDefined (withSpans s ps) c ≡ notDefined s c)
-        × (cellExceeds g (withSpans s ps) c ≡ cellExceeds g s c)
-    unfolding outOfDomain insideWindow notDefined cellExceeds viewOf
+        → (askedOf g (withSpans s ps) c .outOfDomain ≡ askedOf g s c .outOfDomain) × (askedOf g (withSpans s ps) c .notDefined ≡ askedOf g s c .notDefined)
+        × (askedOf g (withSpans s ps) c .tooLarge ≡ askedOf g s c .tooLarge)
+    unfolding askedOf insideWindow viewOf
     tests-same (Character b) = (refl, refl, refl)
     tests-same Back = (refl, refl, refl)
     tests-same Tab = (refl, refl, refl)
@@ -113,11 +113,11 @@ module _ (ps : List Span) (s : State) where
     command-same font c =
         let same = tests-same c in
         rw (same .0, same .1, same .2, carried-same font c)
-        (same-cond (respan ps) (notCarried c) (answered-same NotCarried)
-        (same-cond (respan ps) (ownersOnly c && isHeld (s .hold)) (answered-same WindowHeld)
-        (same-cond (respan ps) (outOfDomain g s c) (answered-same OutOfDomain)
-        (same-cond (respan ps) (notDefined s c) (answered-same NotDefined)
-        (same-cond (respan ps) (cellExceeds g s c) (answered-same TooLarge) refl)))))
+        (same-cond (respan ps) (askedOf g s c .notCarried) (answered-same NotCarried)
+        (same-cond (respan ps) (askedOf g s c .ownersOnly && isHeld (s .hold)) (answered-same WindowHeld)
+        (same-cond (respan ps) (askedOf g s c .outOfDomain) (answered-same OutOfDomain)
+        (same-cond (respan ps) (askedOf g s c .notDefined) (answered-same NotDefined)
+        (same-cond (respan ps) (askedOf g s c .tooLarge) (answered-same TooLarge) refl)))))
 
 module _ (g : Geometry) (font : List ℕ) (ps : List Span) (s : State) where
   -- whatever is read

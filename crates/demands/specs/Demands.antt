@@ -21,7 +21,7 @@ use Rattle.paper.specs.Reading.{between}
 use Rattle.paper.specs.Settings.{initialState, withHalf, withSpans, windowAt, isDefined}
 use Rattle.paper.specs.Bounds.{accepted}
 use Rattle.paper.specs.Cells.{eraseStroke}
-use Rattle.paper.specs.Carry.{notCarried, isHeld, ownersOnly, outOfDomain, notDefined, cellExceeds, Meaning}
+use Rattle.paper.specs.Carry.{askedOf, isHeld, Meaning}
 use Rattle.paper.specs.Calls.{Feeding, feeding, settled, run, fedNothing, started, startCall, feedCall, heldBy, holdCall, released, releaseCall, emptied, refreshCall}
 use Rattle.kept.specs.Guest.{Holding, Guest, OnlyInside}
 use Rattle.demands.specs.Events.{Event, Play, noSpans, spansSince, owed, visible}
@@ -184,16 +184,16 @@ IsCommand r P = (c : Command) × (r ≡ Whole c) × P c
 
 -- "Order for one command: .. then 14, 15, 11, 17, 16": P, and of a row and those before it none holds
 abbrev pub After14 : Command → Type 0 → Type 0
-After14 c P = (notCarried c ≡ false) × P
+After14 c P = (askedOf g s c .notCarried ≡ false) × P
 
 abbrev pub After15 : State → Command → Type 0 → Type 0
-After15 s c P = After14 c (((ownersOnly c && isHeld (s .hold)) ≡ false) × P)
+After15 s c P = After14 c (((askedOf g s c .ownersOnly && isHeld (s .hold)) ≡ false) × P)
 
 abbrev pub After11 : Geometry → State → Command → Type 0 → Type 0
-After11 g s c P = After15 s c ((outOfDomain g s c ≡ false) × P)
+After11 g s c P = After15 s c ((askedOf g s c .outOfDomain ≡ false) × P)
 
 abbrev pub After17 : Geometry → State → Command → Type 0 → Type 0
-After17 g s c P = After11 g s c ((notDefined s c ≡ false) × P)
+After17 g s c P = After11 g s c ((askedOf g s c .notDefined ≡ false) × P)
 
 -- s is the state with nothing half read, r what the byte was read as, t what it comes to
 pub record ByteAnswers (g : Geometry) (s : State) (r : Reading) (t : Meaning) : Type 0 where
@@ -202,22 +202,22 @@ pub record ByteAnswers (g : Geometry) (s : State) (r : Reading) (t : Meaning) : 
   pub number-9 : (outcomeNumber (t .outcome) ≡ 9) ↔ (finishes r ≡ false)
   -- 10: "when it finished a command that was carried out"
   pub number-10 : (outcomeNumber (t .outcome) ≡ 10)
-      ↔ ((endsImage r ≡ true) ⊎ IsCommand r (λ c. After17 g s c (cellExceeds g s c ≡ false)))
+      ↔ ((endsImage r ≡ true) ⊎ IsCommand r (λ c. After17 g s c (askedOf g s c .tooLarge ≡ false)))
   -- 11: "command read whole, a parameter out of its domain"
-  pub number-11 : (outcomeNumber (t .outcome) ≡ 11) ↔ IsCommand r (λ c. After15 s c (outOfDomain g s c ≡ true))
+  pub number-11 : (outcomeNumber (t .outcome) ≡ 11) ↔ IsCommand r (λ c. After15 s c (askedOf g s c .outOfDomain ≡ true))
   -- 12: "cancelled at a byte"
   pub number-12 : (outcomeNumber (t .outcome) ≡ 12) ↔ (r ≡ Cancels)
   -- 13: "unknown code, given at the byte that makes it unknown"
   pub number-13 : (outcomeNumber (t .outcome) ≡ 13) ↔ (r ≡ UnknownCode)
   -- 14: "not carried, read whole"
-  pub number-14 : (outcomeNumber (t .outcome) ≡ 14) ↔ IsCommand r (λ c. notCarried c ≡ true)
+  pub number-14 : (outcomeNumber (t .outcome) ≡ 14) ↔ IsCommand r (λ c. askedOf g s c .notCarried ≡ true)
   -- 15: "refused because a window is held, read whole"
   pub number-15 : (outcomeNumber (t .outcome) ≡ 15)
-      ↔ IsCommand r (λ c. After14 c ((ownersOnly c && isHeld (s .hold)) ≡ true))
+      ↔ IsCommand r (λ c. After14 c ((askedOf g s c .ownersOnly && isHeld (s .hold)) ≡ true))
   -- 16: "a character, BS, HT or LF while the character cell exceeds the range"
-  pub number-16 : (outcomeNumber (t .outcome) ≡ 16) ↔ IsCommand r (λ c. After17 g s c (cellExceeds g s c ≡ true))
+  pub number-16 : (outcomeNumber (t .outcome) ≡ 16) ↔ IsCommand r (λ c. After17 g s c (askedOf g s c .tooLarge ≡ true))
   -- 17: "select of an undefined window"
-  pub number-17 : (outcomeNumber (t .outcome) ≡ 17) ↔ IsCommand r (λ c. After11 g s c (notDefined s c ≡ true))
+  pub number-17 : (outcomeNumber (t .outcome) ≡ 17) ↔ IsCommand r (λ c. After11 g s c (askedOf g s c .notDefined ≡ true))
   -- "no dot, cursor, window or setting changes by a command so answered": nothing is half read, and that is all
   pub unchanged : 11 ≤ outcomeNumber (t .outcome) → (t .state ≡ s) × (t .strokes ≡ [])
 

@@ -98,99 +98,50 @@ moved-ok g w k e d h =
 
 -- ---- the state
 
+-- the seven parts
+parts : {g : Geometry} {s : State} → settingsOk (s .settings) ≡ true → windowsOk g (s .windows) ≡ true
+    → cursorOk (g .columns) (g .rows) (s .base) ≡ true → selectable (s .windows) (s .selected) ≡ true
+    → holdOk (s .windows) (s .selected) (s .hold) ≡ true → halfOk g (s .half) ≡ true → spansOk g (s .spans) ≡ true → Parts g s
+parts v ws b k h p ps =
+    record { settings = v; windows = ws; base = b; selected = k; hold = h; half = p; spans = ps }
+
 module _ (g : Geometry) (s : State) (p : Parts g s) where
   -- another command half read
   pub half-parts : (q : Half) → halfOk g q ≡ true → Parts g (withHalf s q)
   half-parts q h =
-      record {
-        settings = p .settings;
-        windows = p .windows;
-        base = p .base;
-        selected = p .selected;
-        hold = p .hold;
-        half = h;
-        spans = p .spans;
-      }
+      parts (p .settings) (p .windows) (p .base) (p .selected) (p .hold) h (p .spans)
 
   -- other settings
   pub settings-parts : (v : Settings) → settingsOk v ≡ true → Parts g (withSettings s v)
   settings-parts v h =
-      record {
-        settings = h;
-        windows = p .windows;
-        base = p .base;
-        selected = p .selected;
-        hold = p .hold;
-        half = p .half;
-        spans = p .spans;
-      }
+      parts h (p .windows) (p .base) (p .selected) (p .hold) (p .half) (p .spans)
 
   -- other spans
   pub spans-parts : (ps : List Span) → spansOk g ps ≡ true → Parts g (withSpans s ps)
   spans-parts ps h =
-      record {
-        settings = p .settings;
-        windows = p .windows;
-        base = p .base;
-        selected = p .selected;
-        hold = p .hold;
-        half = p .half;
-        spans = h;
-      }
+      parts (p .settings) (p .windows) (p .base) (p .selected) (p .hold) (p .half) h
 
   -- the base window's cursor elsewhere
   pub base-parts : (k : Cursor) → cursorOk (g .columns) (g .rows) k ≡ true → Parts g (withBase s k)
   base-parts k h =
-      record {
-        settings = p .settings;
-        windows = p .windows;
-        base = h;
-        selected = p .selected;
-        hold = p .hold;
-        half = p .half;
-        spans = p .spans;
-      }
+      parts (p .settings) (p .windows) h (p .selected) (p .hold) (p .half) (p .spans)
 
   -- another window selected while nothing is held
   pub selected-parts : (k : ℕ) → selectable (s .windows) k ≡ true → isHeld (s .hold) ≡ false → Parts g (withSelected s k)
   selected-parts k h n =
-      record {
-        settings = p .settings;
-        windows = p .windows;
-        base = p .base;
-        selected = h;
-        hold = free-ok (s .windows) k (s .hold) n;
-        half = p .half;
-        spans = p .spans;
-      }
+      parts (p .settings) (p .windows) (p .base) h (free-ok (s .windows) k (s .hold) n) (p .half) (p .spans)
 
   -- a window defined, or moved in
   pub defined-parts : (k : ℕ) (w : Window) → windowOk g w ≡ true → isDefined w ≡ true → Parts g (defined s k w)
   defined-parts k w h d =
-      record {
-        settings = p .settings;
-        windows = windows-set g (s .windows) (k - 1) w (p .windows) h;
-        base = p .base;
-        selected = selectable-set (s .windows) (k - 1) (s .selected) w d (p .selected);
-        hold = hold-set (s .windows) (s .selected) (k - 1) w (s .hold) d (p .hold);
-        half = p .half;
-        spans = p .spans;
-      }
+      parts (p .settings) (windows-set g (s .windows) (k - 1) w (p .windows) h) (p .base) (selectable-set (s .windows) (k - 1) (s .selected) w d (p .selected)) (hold-set (s .windows) (s .selected) (k - 1) w (s .hold) d (p .hold)) (p .half) (p .spans)
 
   -- a window taken away while nothing is held, j then selected
   without-parts : (k j : ℕ) → isHeld (s .hold) ≡ false → selectable (set (s .windows) (k - 1) noWindow) j ≡ true
       → Parts g (withSelected (defined s k noWindow) j)
   unfolding windowOk isBlank
   without-parts k j n h =
-      record {
-        settings = p .settings;
-        windows = windows-set g (s .windows) (k - 1) noWindow (p .windows) refl;
-        base = p .base;
-        selected = h;
-        hold = free-ok (set (s .windows) (k - 1) noWindow) j (s .hold) n;
-        half = p .half;
-        spans = p .spans;
-      }
+      parts (p .settings) (windows-set g (s .windows) (k - 1) noWindow (p .windows) refl) (p .base) h (free-ok (set (s .windows) (k - 1) noWindow) j (s .hold) n) (p .half) (p .spans)
 
   -- a window cancelled
   pub cancelled-parts : (k : ℕ) → 1 ≤ k → isHeld (s .hold) ≡ false → Parts g (cancelled s k)

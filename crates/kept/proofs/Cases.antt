@@ -17,7 +17,7 @@ use Rattle.paper.specs.declared.State.{State}
 use Rattle.paper.specs.Reading.{readOf}
 use Rattle.paper.specs.Settings.{withHalf, viewOf}
 use Rattle.paper.specs.Bounds.{halfOk}
-use Rattle.paper.specs.Carry.{Meaning, means, notCarried, isHeld, ownersOnly, outOfDomain, notDefined, cellExceeds, carriedOut, answers, commandOf, imageStrokes, takeOf, byteMeans}
+use Rattle.paper.specs.Carry.{Meaning, means, askedOf, isHeld, carriedOut, answers, commandOf, imageStrokes, takeOf, byteMeans}
 use Rattle.laws.specs.Readings.{commandOk, readingOk}
 use Rattle.laws.proofs.Readings.{reads-ok}
 use Rattle.laws.proofs.Tests.{both-of}
@@ -25,11 +25,11 @@ use Rattle.kept.proofs.Tests.{by-cond}
 
 -- a command to which none of 14, 15, 11, 17 and 16 is answered
 pub record Allowed (g : Geometry) (s : State) (c : Command) : Type 0 where
-  pub carried : notCarried c ≡ false
-  pub owner : (ownersOnly c && isHeld (s .hold)) ≡ false
-  pub domain : outOfDomain g s c ≡ false
-  pub defined : notDefined s c ≡ false
-  pub room : cellExceeds g s c ≡ false
+  pub carried : askedOf g s c .notCarried ≡ false
+  pub owner : (askedOf g s c .ownersOnly && isHeld (s .hold)) ≡ false
+  pub domain : askedOf g s c .outOfDomain ≡ false
+  pub defined : askedOf g s c .notDefined ≡ false
+  pub room : askedOf g s c .tooLarge ≡ false
 
 module _ (g : Geometry) (font : List ℕ) (P : Meaning → Type 0) where
   -- a command is answered, or it is carried out
@@ -37,11 +37,11 @@ module _ (g : Geometry) (font : List ℕ) (P : Meaning → Type 0) where
       → P (commandOf g font s c)
   unfolding commandOf
   by-command s c answered done =
-      by-cond P (notCarried c) (λ _. answered NotCarried)
-      (λ e14. by-cond P (ownersOnly c && isHeld (s .hold)) (λ _. answered WindowHeld)
-      (λ e15. by-cond P (outOfDomain g s c) (λ _. answered OutOfDomain)
-      (λ e11. by-cond P (notDefined s c) (λ _. answered NotDefined)
-      (λ e17. by-cond P (cellExceeds g s c) (λ _. answered TooLarge)
+      by-cond P (askedOf g s c .notCarried) (λ _. answered NotCarried)
+      (λ e14. by-cond P (askedOf g s c .ownersOnly && isHeld (s .hold)) (λ _. answered WindowHeld)
+      (λ e15. by-cond P (askedOf g s c .outOfDomain) (λ _. answered OutOfDomain)
+      (λ e11. by-cond P (askedOf g s c .notDefined) (λ _. answered NotDefined)
+      (λ e17. by-cond P (askedOf g s c .tooLarge) (λ _. answered TooLarge)
       (λ e16. done (record { carried = e14; owner = e15; domain = e11; defined = e17; room = e16 }))))))
 
   -- by what is half read afterwards: nothing is written, an image byte is, or a command that is allowed is carried out

@@ -16,7 +16,7 @@ use Rattle.paper.specs.Settings.{initialStyle, initialSettings, topLeft, initia
 use Rattle.paper.specs.Bounds.{settingsOk, cursorOk, isBlank, windowOk, windowsOk, holdOk, spanOk, wordOk, halfOk, accepted}
 use Rattle.paper.specs.Cells.{cellDot, penned, cellWidth, tooLarge}
 use Rattle.paper.specs.Moves.{nextLine, nextLineUp, pushLeft, htOf, drawTab, blankTab, characterOf, lineDown, lineDownUp, lineFeedOf, clearOf}
-use Rattle.paper.specs.Carry.{notCarried, isHeld, ownersOnly, outOfDomain, notDefined, cellExceeds, carriedOut, commandOf, takeOf, byteMeans}
+use Rattle.paper.specs.Carry.{askedOf, isHeld, carriedOut, commandOf, takeOf, byteMeans}
 use Rattle.paper.specs.Calls.{isAccepted, startRefusal, startCall, feedRefusal, Feeding, next, run, fedNothing, feedCall, holdRefusal, heldBy, holdCall, refreshRefusal, emptied, refreshCall}
 use Rattle.laws.proofs.Dots.{byte-rule}
 use Rattle.marked.specs.Marked.{Font, begun, fresh, freshState, fed, lit, fedLit, answersTo, cursorAfter, nextRefresh, rows, _of_, column, glyph, glyphLow, cursorSet, md2, md3, windowOne, image, held, fedHeld, Marked}
@@ -62,7 +62,7 @@ columns-same d e same font f =
 -- ---- the cases
 
 pub marked : (font : List ℕ) → Font font → Marked font
-unfolding begun fresh startCall startRefusal isAccepted refreshCall refreshRefusal emptied refreshed shown panel byteOf glyphDot rectMap grown grownBy outcomeNumber refusalNumber carriedBy answeredBy readMove readFirst readEscape readUnit readGroup readPictures readWindows readWindowB readWord readOf initialStyle initialSettings topLeft initialState inDomain inEnlargement selectable fits cursorOf atCursor inMode insideWindow baseView viewOf cursorIn settingsOk cursorOk isBlank windowOk windowsOk holdOk spanOk wordOk halfOk accepted cellDot penned cellWidth tooLarge nextLine nextLineUp pushLeft htOf drawTab blankTab characterOf lineDown lineDownUp lineFeedOf clearOf notCarried isHeld ownersOnly outOfDomain notDefined cellExceeds carriedOut commandOf takeOf byteMeans next holdRefusal heldBy holdCall dotsBelow dotsAbove
+unfolding begun fresh startCall startRefusal isAccepted refreshCall refreshRefusal emptied refreshed shown panel byteOf glyphDot rectMap grown grownBy outcomeNumber refusalNumber carriedBy answeredBy readMove readFirst readEscape readUnit readGroup readPictures readWindows readWindowB readWord readOf initialStyle initialSettings topLeft initialState inDomain inEnlargement selectable fits cursorOf atCursor inMode insideWindow baseView viewOf cursorIn settingsOk cursorOk isBlank windowOk windowsOk holdOk spanOk wordOk halfOk accepted cellDot penned cellWidth tooLarge nextLine nextLineUp pushLeft htOf drawTab blankTab characterOf lineDown lineDownUp lineFeedOf clearOf askedOf isHeld carriedOut commandOf takeOf byteMeans next holdRefusal heldBy holdCall dotsBelow dotsAbove
 marked font f = record {
   case-1 = on [];
   case-2 = (

@@ -47,25 +47,6 @@ notCarriedValue Mixing n = false
 notCarriedValue Width n = between 2 3 n
 notCarriedValue Write n = false
 
--- 14: "not carried, read whole"
-unfoldable pub notCarried : Command → Bool
-notCarried (Character b) = false
-notCarried Back = false
-notCarried Tab = false
-notCarried LineFeed = false
-notCarried Home = false
-notCarried Clear = false
-notCarried Return = false
-notCarried (Select k) = false
-notCarried Initialise = false
-notCarried (Mode n) = false
-notCarried (Set key n) = notCarriedValue key n
-notCarried (Enlarge x y) = false
-notCarried (CursorSet x y) = false
-notCarried (Define a left top width height) = false
-notCarried (Cancel a) = false
-notCarried Uncarried = true
-
 -- whether a window is held
 unfoldable pub isHeld : Hold → Bool
 isHeld Free = false
@@ -83,64 +64,6 @@ isWrite Mixing = false
 isWrite Width = false
 isWrite Write = true
 
--- 15: "While held, initialise, select, WINx, define or cancel, and write mode are answered 15."
-unfoldable pub ownersOnly : Command → Bool
-ownersOnly (Character b) = false
-ownersOnly Back = false
-ownersOnly Tab = false
-ownersOnly LineFeed = false
-ownersOnly Home = false
-ownersOnly Clear = false
-ownersOnly Return = false
-ownersOnly (Select k) = true
-ownersOnly Initialise = true
-ownersOnly (Mode n) = false
-ownersOnly (Set key n) = isWrite key
-ownersOnly (Enlarge x y) = false
-ownersOnly (CursorSet x y) = false
-ownersOnly (Define a left top width height) = true
-ownersOnly (Cancel a) = true
-ownersOnly Uncarried = false
-
--- 11: "command read whole, a parameter out of its domain"; "Cursor set counts from the window's top left; outside the window it
--- is answered 11."
-unfoldable pub outOfDomain : Geometry → State → Command → Bool
-outOfDomain g s (Character b) = false
-outOfDomain g s Back = false
-outOfDomain g s Tab = false
-outOfDomain g s LineFeed = false
-outOfDomain g s Home = false
-outOfDomain g s Clear = false
-outOfDomain g s Return = false
-outOfDomain g s (Select k) = ltb 4 k
-outOfDomain g s Initialise = false
-outOfDomain g s (Mode n) = false
-outOfDomain g s (Set key n) = not (inDomain key n)
-outOfDomain g s (Enlarge x y) = not (inEnlargement x y)
-outOfDomain g s (CursorSet x y) = not (insideWindow g s x y)
-outOfDomain g s (Define a left top width height) = not (fits g left top width height)
-outOfDomain g s (Cancel a) = false
-outOfDomain g s Uncarried = false
-
--- 17: "select of an undefined window"
-unfoldable pub notDefined : State → Command → Bool
-notDefined s (Character b) = false
-notDefined s Back = false
-notDefined s Tab = false
-notDefined s LineFeed = false
-notDefined s Home = false
-notDefined s Clear = false
-notDefined s Return = false
-notDefined s (Select k) = not (selectable (s .windows) k)
-notDefined s Initialise = false
-notDefined s (Mode n) = false
-notDefined s (Set key n) = false
-notDefined s (Enlarge x y) = false
-notDefined s (CursorSet x y) = false
-notDefined s (Define a left top width height) = false
-notDefined s (Cancel a) = false
-notDefined s Uncarried = false
-
 -- the cell's width c and height L
 abbrev pub widthNow : State → ℕ
 widthNow s = cellWidth (s .settings .width) (s .settings .style)
@@ -148,27 +71,55 @@ widthNow s = cellWidth (s .settings .width) (s .settings .style)
 abbrev pub heightNow : State → ℕ
 heightNow s = cellHeight (s .settings .style)
 
--- 16: "a character, BS, HT or LF while the character cell exceeds the range"
+-- the character cell exceeds the range
 abbrev pub exceeds : Geometry → State → Bool
 exceeds g s = tooLarge (viewOf g s) (widthNow s) (heightNow s)
 
-unfoldable pub cellExceeds : Geometry → State → Command → Bool
-cellExceeds g s (Character b) = exceeds g s
-cellExceeds g s Back = exceeds g s
-cellExceeds g s Tab = exceeds g s
-cellExceeds g s LineFeed = exceeds g s
-cellExceeds g s Home = false
-cellExceeds g s Clear = false
-cellExceeds g s Return = false
-cellExceeds g s (Select k) = false
-cellExceeds g s Initialise = false
-cellExceeds g s (Mode n) = false
-cellExceeds g s (Set key n) = false
-cellExceeds g s (Enlarge x y) = false
-cellExceeds g s (CursorSet x y) = false
-cellExceeds g s (Define a left top width height) = false
-cellExceeds g s (Cancel a) = false
-cellExceeds g s Uncarried = false
+-- What a command is asked before it is carried out, each under its number's words.
+pub record Asked : Type 0 where
+  -- 14: "not carried, read whole"
+  pub notCarried : Bool
+  -- 15: "While held, initialise, select, WINx, define or cancel, and write mode are answered 15."
+  pub ownersOnly : Bool
+  -- 11: "command read whole, a parameter out of its domain"
+  pub outOfDomain : Bool
+  -- 17: "select of an undefined window"
+  pub notDefined : Bool
+  -- 16: "a character, BS, HT or LF while the character cell exceeds the range"
+  pub tooLarge : Bool
+
+abbrev pub asked : Bool → Bool → Bool → Bool → Bool → Asked
+asked n14 n15 n11 n17 n16 =
+    record { notCarried = n14; ownersOnly = n15; outOfDomain = n11; notDefined = n17; tooLarge = n16 }
+
+-- a command that is asked for room for its cell; one that is asked for its domain alone; one that is asked nothing
+abbrev pub inCell : Geometry → State → Asked
+inCell g s = asked false false false false (exceeds g s)
+
+abbrev pub inDomainOnly : Bool → Asked
+inDomainOnly ok = asked false false (not ok) false false
+
+abbrev pub always : Asked
+always = asked false false false false false
+
+-- A row for each command: 14, 15, 11, 17, 16. "Cursor set counts from the window's top left; outside the window it is answered 11."
+unfoldable pub askedOf : Geometry → State → Command → Asked
+askedOf g s (Character b) = inCell g s
+askedOf g s Back = inCell g s
+askedOf g s Tab = inCell g s
+askedOf g s LineFeed = inCell g s
+askedOf g s Home = always
+askedOf g s Clear = always
+askedOf g s Return = always
+askedOf g s (Select k) = asked false true (ltb 4 k) (not (selectable (s .windows) k)) false
+askedOf g s Initialise = asked false true false false false
+askedOf g s (Mode n) = always
+askedOf g s (Set key n) = asked (notCarriedValue key n) (isWrite key) (not (inDomain key n)) false false
+askedOf g s (Enlarge x y) = inDomainOnly (inEnlargement x y)
+askedOf g s (CursorSet x y) = inDomainOnly (insideWindow g s x y)
+askedOf g s (Define a left top width height) = asked false true (not (fits g left top width height)) false false
+askedOf g s (Cancel a) = asked false true false false false
+askedOf g s Uncarried = asked true false false false false
 
 -- ---- what a command that is carried out does
 
@@ -208,11 +159,12 @@ answers s o = means s o []
 -- "Order for one command: .. then 14, 15, 11, 17, 16."
 unfoldable pub commandOf : Geometry → List ℕ → State → Command → Meaning
 commandOf g font s c =
-    cond (notCarried c) (answers s NotCarried)
-    (cond (ownersOnly c && isHeld (s .hold)) (answers s WindowHeld)
-    (cond (outOfDomain g s c) (answers s OutOfDomain)
-    (cond (notDefined s c) (answers s NotDefined)
-    (cond (cellExceeds g s c) (answers s TooLarge) (carriedOut g font s c)))))
+    let a = askedOf g s c in
+    cond (a .notCarried) (answers s NotCarried)
+    (cond (a .ownersOnly && isHeld (s .hold)) (answers s WindowHeld)
+    (cond (a .outOfDomain) (answers s OutOfDomain)
+    (cond (a .notDefined) (answers s NotDefined)
+    (cond (a .tooLarge) (answers s TooLarge) (carriedOut g font s c)))))
 
 -- ---- one byte
 
