@@ -4,4 +4,6 @@ pub mod Outcomes
 pub mod Feeds
 pub mod Unseen
 pub mod Events
+pub mod Begun
 pub mod Demands
+pub mod Premises

@@ -66,12 +66,12 @@ carried-10 g font s Uncarried = refl
 
 -- what a command read whole is answered
 record CommandAnswers (g : Geometry) (s : State) (c : Command) (t : Meaning) : Type 0 where
-  number-10 : (number t ≡ 10) ↔ After17 g s c (askedOf g s c .tooLarge ≡ false)
-  number-11 : (number t ≡ 11) ↔ After15 s c (askedOf g s c .outOfDomain ≡ true)
+  number-10 : (number t ≡ 10) ↔ After17 s (askedOf g s c) (askedOf g s c .tooLarge ≡ false)
+  number-11 : (number t ≡ 11) ↔ After15 s (askedOf g s c) (askedOf g s c .outOfDomain ≡ true)
   number-14 : (number t ≡ 14) ↔ (askedOf g s c .notCarried ≡ true)
-  number-15 : (number t ≡ 15) ↔ After14 c ((askedOf g s c .ownersOnly && isHeld (s .hold)) ≡ true)
-  number-16 : (number t ≡ 16) ↔ After17 g s c (askedOf g s c .tooLarge ≡ true)
-  number-17 : (number t ≡ 17) ↔ After11 g s c (askedOf g s c .notDefined ≡ true)
+  number-15 : (number t ≡ 15) ↔ After14 (askedOf g s c) ((askedOf g s c .ownersOnly && isHeld (s .hold)) ≡ true)
+  number-16 : (number t ≡ 16) ↔ After17 s (askedOf g s c) (askedOf g s c .tooLarge ≡ true)
+  number-17 : (number t ≡ 17) ↔ After11 s (askedOf g s c) (askedOf g s c .notDefined ≡ true)
   no-9 : number t ≢ 9
   no-12 : number t ≢ 12
   no-13 : number t ≢ 13
@@ -123,25 +123,25 @@ module _ (g : Geometry) (font : List ℕ) (s : State) (c : Command) where
 
   -- a number that no row up to 14, to 15, to 11 or to 17 gives is given when what comes after them gives it
   past-14 : (i : ℕ) {P : Type 0} → eqb 14 i ≡ false → ((number from-15 ≡ i) ↔ P)
-      → (number (commandOf g font s c) ≡ i) ↔ After14 c P
+      → (number (commandOf g font s c) ≡ i) ↔ After14 (askedOf g s c) P
   unfolding commandOf outcomeNumber
   past-14 i not-14 h = later number i (askedOf g s c .notCarried) (answers s NotCarried) from-15 not-14 Iff·rfl h
 
   past-15 : (i : ℕ) {P : Type 0} → eqb 14 i ≡ false → eqb 15 i ≡ false → ((number from-11 ≡ i) ↔ P)
-      → (number (commandOf g font s c) ≡ i) ↔ After15 s c P
+      → (number (commandOf g font s c) ≡ i) ↔ After15 s (askedOf g s c) P
   unfolding outcomeNumber
   past-15 i not-14 not-15 h =
       past-14 i not-14
       (later number i (askedOf g s c .ownersOnly && isHeld (s .hold)) (answers s WindowHeld) from-11 not-15 Iff·rfl h)
 
   past-11 : (i : ℕ) {P : Type 0} → eqb 14 i ≡ false → eqb 15 i ≡ false → eqb 11 i ≡ false → ((number from-17 ≡ i) ↔ P)
-      → (number (commandOf g font s c) ≡ i) ↔ After11 g s c P
+      → (number (commandOf g font s c) ≡ i) ↔ After11 s (askedOf g s c) P
   unfolding outcomeNumber
   past-11 i not-14 not-15 not-11 h =
       past-15 i not-14 not-15 (later number i (askedOf g s c .outOfDomain) (answers s OutOfDomain) from-17 not-11 Iff·rfl h)
 
   past-17 : (i : ℕ) {P : Type 0} → eqb 14 i ≡ false → eqb 15 i ≡ false → eqb 11 i ≡ false → eqb 17 i ≡ false
-      → ((number from-16 ≡ i) ↔ P) → (number (commandOf g font s c) ≡ i) ↔ After17 g s c P
+      → ((number from-16 ≡ i) ↔ P) → (number (commandOf g font s c) ≡ i) ↔ After17 s (askedOf g s c) P
   unfolding outcomeNumber
   past-17 i not-14 not-15 not-11 not-17 h =
       past-11 i not-14 not-15 not-11 (later number i (askedOf g s c .notDefined) (answers s NotDefined) from-16 not-17 Iff·rfl h)

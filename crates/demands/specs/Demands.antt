@@ -2,29 +2,31 @@
 use mathlib.Core.Path.{_≡_}
 use mathlib.Core.Logic.{_↔_, _≢_, _⊎_}
 use mathlib.Core.Bool.{Bool, true, false, _&&_, _||_}
-use mathlib.Core.List.{List, [], _∷_}
+use mathlib.Core.List.{List, [], _∷_, _++_}
 use Prim.Native.Nat.{ℕ, _+_, _<_, _≤_}
 use lib.Dec.{eqb}
 use lib.ListN.{length, getD, replicate}
 use Rattle.paper.specs.declared.Geometry.{Geometry}
 use Rattle.paper.specs.declared.Settings.{Settings}
+use Rattle.paper.specs.declared.Span.{Span}
 use Rattle.paper.specs.declared.Half.the-variants.{Nothing}
 use Rattle.paper.specs.declared.Command.{Command}
 use Rattle.paper.specs.declared.Reading.{Reading}
 use Rattle.paper.specs.declared.Reading.the-variants.{More, Whole, Picture, PictureEnd, Cancels, UnknownCode}
 use Rattle.paper.specs.declared.Refusal.the-variants.{Accepted}
 use Rattle.paper.specs.declared.State.{State}
-use Rattle.paper.specs.Panel.{memoryLength, glassLength, fontLength, columnOf, rowOf}
+use Rattle.paper.specs.Panel.{panel, memoryLength, glassLength, fontLength, columnOf, rowOf}
 use Rattle.paper.specs.Strokes.{noSpan, spanHolds, applyAll, refreshed, shownAll}
 use Rattle.paper.specs.Numbers.{refusalNumber, outcomeNumber, carriedBy, answeredBy}
 use Rattle.paper.specs.Reading.{between}
-use Rattle.paper.specs.Settings.{initialState, withHalf, withSpans, windowAt, isDefined}
+use Rattle.paper.specs.Settings.{initialSettings, initialState, withHalf, withSpans, windowAt, isDefined}
 use Rattle.paper.specs.Bounds.{accepted}
 use Rattle.paper.specs.Cells.{eraseStroke}
-use Rattle.paper.specs.Carry.{askedOf, isHeld, Meaning}
-use Rattle.paper.specs.Calls.{Feeding, feeding, settled, run, fedNothing, started, startCall, feedCall, heldBy, holdCall, released, releaseCall, emptied, refreshCall}
+use Rattle.paper.specs.Carry.{Asked, askedOf, isHeld, Meaning}
+use Rattle.paper.specs.Calls.{Feeding, feeding, settled, run, fedNothing, started, startCall, feedCall, heldBy, holdCall, released, releaseCall, emptied, Refreshing, refreshCall}
+use Rattle.marked.specs.Marked.{windowOne}
 use Rattle.kept.specs.Guest.{Holding, Guest, OnlyInside}
-use Rattle.demands.specs.Events.{Event, Play, noSpans, spansSince, owed, visible}
+use Rattle.demands.specs.Events.{Event, refresh, Play, refreshedThen, followed, play, noSpans, spansSince, owed, visible}
 
 -- ==== DEMAND 1. "Any bytes, buffers and state record may be handed in. Each call answers or refuses by document 01's numbers,
 -- in its order. A refused call changes no lent byte and hands the state back unchanged."
@@ -179,21 +181,21 @@ endsImage (PictureEnd column row b) = true
 endsImage Cancels = false
 endsImage UnknownCode = false
 
-abbrev pub IsCommand : Reading → (Command → Type 0) → Type 0
-IsCommand r P = (c : Command) × (r ≡ Whole c) × P c
+abbrev pub IsCommand : Geometry → State → Reading → (Asked → Type 0) → Type 0
+IsCommand g s r P = (c : Command) × (r ≡ Whole c) × P (askedOf g s c)
 
 -- "Order for one command: .. then 14, 15, 11, 17, 16": P, and of a row and those before it none holds
-abbrev pub After14 : Command → Type 0 → Type 0
-After14 c P = (askedOf g s c .notCarried ≡ false) × P
+abbrev pub After14 : Asked → Type 0 → Type 0
+After14 a P = (a .notCarried ≡ false) × P
 
-abbrev pub After15 : State → Command → Type 0 → Type 0
-After15 s c P = After14 c (((askedOf g s c .ownersOnly && isHeld (s .hold)) ≡ false) × P)
+abbrev pub After15 : State → Asked → Type 0 → Type 0
+After15 s a P = After14 a (((a .ownersOnly && isHeld (s .hold)) ≡ false) × P)
 
-abbrev pub After11 : Geometry → State → Command → Type 0 → Type 0
-After11 g s c P = After15 s c ((askedOf g s c .outOfDomain ≡ false) × P)
+abbrev pub After11 : State → Asked → Type 0 → Type 0
+After11 s a P = After15 s a ((a .outOfDomain ≡ false) × P)
 
-abbrev pub After17 : Geometry → State → Command → Type 0 → Type 0
-After17 g s c P = After11 g s c ((askedOf g s c .notDefined ≡ false) × P)
+abbrev pub After17 : State → Asked → Type 0 → Type 0
+After17 s a P = After11 s a ((a .notDefined ≡ false) × P)
 
 -- s is the state with nothing half read, r what the byte was read as, t what it comes to
 pub record ByteAnswers (g : Geometry) (s : State) (r : Reading) (t : Meaning) : Type 0 where
@@ -202,22 +204,22 @@ pub record ByteAnswers (g : Geometry) (s : State) (r : Reading) (t : Meaning) : 
   pub number-9 : (outcomeNumber (t .outcome) ≡ 9) ↔ (finishes r ≡ false)
   -- 10: "when it finished a command that was carried out"
   pub number-10 : (outcomeNumber (t .outcome) ≡ 10)
-      ↔ ((endsImage r ≡ true) ⊎ IsCommand r (λ c. After17 g s c (askedOf g s c .tooLarge ≡ false)))
+      ↔ ((endsImage r ≡ true) ⊎ IsCommand g s r (λ a. After17 s a (a .tooLarge ≡ false)))
   -- 11: "command read whole, a parameter out of its domain"
-  pub number-11 : (outcomeNumber (t .outcome) ≡ 11) ↔ IsCommand r (λ c. After15 s c (askedOf g s c .outOfDomain ≡ true))
+  pub number-11 : (outcomeNumber (t .outcome) ≡ 11) ↔ IsCommand g s r (λ a. After15 s a (a .outOfDomain ≡ true))
   -- 12: "cancelled at a byte"
   pub number-12 : (outcomeNumber (t .outcome) ≡ 12) ↔ (r ≡ Cancels)
   -- 13: "unknown code, given at the byte that makes it unknown"
   pub number-13 : (outcomeNumber (t .outcome) ≡ 13) ↔ (r ≡ UnknownCode)
   -- 14: "not carried, read whole"
-  pub number-14 : (outcomeNumber (t .outcome) ≡ 14) ↔ IsCommand r (λ c. askedOf g s c .notCarried ≡ true)
+  pub number-14 : (outcomeNumber (t .outcome) ≡ 14) ↔ IsCommand g s r (λ a. a .notCarried ≡ true)
   -- 15: "refused because a window is held, read whole"
   pub number-15 : (outcomeNumber (t .outcome) ≡ 15)
-      ↔ IsCommand r (λ c. After14 c ((askedOf g s c .ownersOnly && isHeld (s .hold)) ≡ true))
+      ↔ IsCommand g s r (λ a. After14 a ((a .ownersOnly && isHeld (s .hold)) ≡ true))
   -- 16: "a character, BS, HT or LF while the character cell exceeds the range"
-  pub number-16 : (outcomeNumber (t .outcome) ≡ 16) ↔ IsCommand r (λ c. After17 g s c (askedOf g s c .tooLarge ≡ true))
+  pub number-16 : (outcomeNumber (t .outcome) ≡ 16) ↔ IsCommand g s r (λ a. After17 s a (a .tooLarge ≡ true))
   -- 17: "select of an undefined window"
-  pub number-17 : (outcomeNumber (t .outcome) ≡ 17) ↔ IsCommand r (λ c. After11 g s c (askedOf g s c .notDefined ≡ true))
+  pub number-17 : (outcomeNumber (t .outcome) ≡ 17) ↔ IsCommand g s r (λ a. After11 s a (a .notDefined ≡ true))
   -- "no dot, cursor, window or setting changes by a command so answered": nothing is half read, and that is all
   pub unchanged : 11 ≤ outcomeNumber (t .outcome) → (t .state ≡ s) × (t .strokes ≡ [])
 
@@ -263,10 +265,29 @@ pub record InStep (g : Geometry) (font : List ℕ) (k back : ℕ) (v : Settings)
   pub memory : length m ≡ memoryLength g
   pub fonts : length font ≡ fontLength
 
+-- from glass `was` came glass `is` by a copy of what the spans ps hold of memory m
+pub record CopiedOnly (g : Geometry) (ps : List Span) (m was is : List ℕ) : Type 0 where
+  -- "Refresh copies each span's visible columns"
+  pub copied : (a : ℕ) → a < glassLength g → spanHolds (getD ps (rowOf g a) noSpan) (columnOf g a) ≡ true
+      → getD is a 0 ≡ getD m a 0
+  -- "changes no other glass byte"
+  pub kept : (a : ℕ) → a < glassLength g → spanHolds (getD ps (rowOf g a) noSpan) (columnOf g a) ≡ false
+      → getD is a 0 ≡ getD was a 0
+
+-- refresh r of a whole play: b is the play before it and rest the play after it, and ps are the spans written since the refresh
+-- before it
+pub record RefreshedAt (g : Geometry) (ps : List Span) (b : Play) (r : Refreshing) (rest whole : Play) : Type 0 where
+  -- this is its place
+  pub place : whole ≡ followed b (refreshedThen r rest)
+  -- "each refresh moved only the spans written since the one before"
+  pub glass : CopiedOnly g ps (b .mem) (b .glass) (r .glass)
+  -- "reports the number of bytes moved, which is the sum of the visible span lengths"
+  pub moved : r .answer .moved ≡ shownAll g ps
+
 -- p is what the pieces and refreshes come to, one is what the joined bytes come to, fed at once, and last is p with one more
 -- refresh
-pub record Served (g : Geometry) (font : List ℕ) (k back : ℕ) (v : Settings) (s : State) (m : List ℕ) (events : List Event)
-    (p : Play) (one : Feeding) (last : Play) : Type 0 where
+pub record Served (g : Geometry) (font : List ℕ) (k back : ℕ) (v : Settings) (s : State) (m glass : List ℕ)
+    (events : List Event) (p : Play) (one : Feeding) (last : Play) : Type 0 where
   -- no call is refused
   pub refusals : p .refusals ≡ replicate (length events) Accepted
   -- "what document 01 gives for the joined bytes": memory, the summed counts, and the state: cursors, settings, windows, hold
@@ -281,10 +302,35 @@ pub record Served (g : Geometry) (font : List ℕ) (k back : ℕ) (v : Settings)
   pub guest : Guest k back v s (p .state)
   -- "after a last refresh the glass equals the visible memory"
   pub shows : last .glass ≡ visible g (p .mem)
-  -- "each refresh moved only the spans written since the one before": as many bytes as these have, "224 at most"
+  -- "each refresh moved only the spans written since the one before", wherever it stands among the events
+  pub each : (before after : List Event) → events ≡ before ++ refresh ∷ after
+      → let b = play g font s m glass before in
+      let r = refreshCall g (b .state) (b .mem) (b .glass) in
+      RefreshedAt g (spansSince g font s [] before) b r (play g font (r .answer .state) (b .mem) (r .glass) after) p
+  -- as many bytes as these have, "224 at most"
   pub moved : p .moved ≡ owed g font s [] events
   pub most : (i : ℕ) → getD (p .moved) i 0 ≤ glassLength g
-  -- and no other byte of the glass
-  pub only : (a : ℕ) → a < glassLength g
-      → spanHolds (getD (spansSince g font s [] events) (rowOf g a) noSpan) (columnOf g a) ≡ false
-      → getD (last .glass) a 0 ≡ getD (p .glass) a 0
+
+-- ---- one panel that is begun with: started, fed the define of marked case 11, its window held, and refreshed
+
+abbrev pub windowFed : (font m : List ℕ) → Feeding
+windowFed font m = let a = startCall panel m in feedCall panel font (a .answer .state) (a .mem) windowOne
+
+abbrev pub windowHeld : (font m glass : List ℕ) → Refreshing
+windowHeld font m glass =
+    let f = windowFed font m in refreshCall panel (holdCall panel (f .answer .state) 1 .state) (f .mem) glass
+
+abbrev pub BegunInStep : (font m glass : List ℕ) → Type 0
+BegunInStep font m glass =
+    let r = windowHeld font m glass in
+    InStep panel font 1 0 initialSettings (r .answer .state) (windowFed font m .mem) (r .glass)
+
+-- lent to it
+abbrev pub someFont : List ℕ
+someFont = replicate 1120 0
+
+abbrev pub someMemory : List ℕ
+someMemory = replicate 1024 0x3C
+
+abbrev pub someGlass : List ℕ
+someGlass = replicate 224 0xC3

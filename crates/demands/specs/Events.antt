@@ -66,6 +66,19 @@ refreshedThen r p =
       refusals = r .answer .refusal ∷ p .refusals;
     }
 
+-- one play after another that went on from it
+abbrev pub followed : Play → Play → Play
+followed p q =
+    record {
+      state = q .state;
+      mem = q .mem;
+      glass = q .glass;
+      carried = p .carried + q .carried;
+      answered = p .answered + q .answered;
+      moved = p .moved ++ q .moved;
+      refusals = p .refusals ++ q .refusals;
+    }
+
 -- each piece is fed and each refresh made, on what the one before left
 abbrev pub play : Geometry → List ℕ → State → List ℕ → List ℕ → List Event → Play
 play g font s m glass [] = resting s m glass
