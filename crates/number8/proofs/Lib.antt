@@ -1,0 +1,2 @@
+-- Number 8 is given exactly if a clause holds.
+pub mod Number8
