@@ -19,7 +19,7 @@ use Rattle.paper.specs.declared.State.{State}
 use Rattle.paper.specs.Numbers.{outcomeNumber}
 use Rattle.paper.specs.Reading.{readOf}
 use Rattle.paper.specs.Settings.{withHalf}
-use Rattle.paper.specs.Carry.{Meaning, askedOf, isHeld, carriedOut, answers, commandOf, takeOf, byteMeans}
+use Rattle.paper.specs.Carry.{Meaning, Asked, askedOf, isHeld, carriedOut, answers, commandOf, takeOf, byteMeans}
 use Rattle.paper.specs.Calls.{next}
 use Rattle.kept.proofs.Cases.{by-command}
 use Rattle.demands.specs.Demands.{finishes, endsImage, IsCommand, After14, After15, After11, After17, ByteAnswers}
@@ -207,7 +207,7 @@ unlike r q n e = n (ap kind e)
 
 -- one that is no command has no command's number
 module _ (g : Geometry) (s : State) (r : Reading) (t : Meaning) (other : kind r ≢ 1) where
-  not-command : {A : Type 0} {P : Command → Type 0} → (A → ⊥) → A ↔ IsCommand r P
+  not-command : {A : Type 0} {P : Command → Type 0} → (A → ⊥) → A ↔ ((c : Command) × (r ≡ Whole c) × P c)
   not-command n = neither n (λ x. other (ap kind (x .1)))
 
   plain-answers : (number t ≢ 11) × (number t ≢ 14) × (number t ≢ 15) × (number t ≢ 16) × (number t ≢ 17)
@@ -231,8 +231,10 @@ module _ (g : Geometry) (s : State) (r : Reading) (t : Meaning) (other : kind r 
       }
 
 -- one that is a command has the command's
-a-command : (c : Command) {A : Type 0} (P : Command → Type 0) → (A ↔ P c) → A ↔ IsCommand (Whole c) P
-a-command c P h = (λ e. (c, refl, h .0 e), λ x. h .1 (subst P (sym (ap commandIn (x .1))) (x .2)))
+a-command : (g : Geometry) (s : State) (c : Command) {A : Type 0} (P : Asked → Type 0) → (A ↔ P (askedOf g s c))
+    → A ↔ IsCommand g s (Whole c) P
+a-command g s c P h =
+    (λ e. (c, refl, h .0 e), λ x. h .1 (subst (λ (q : Command). P (askedOf g s q)) (sym (ap commandIn (x .1))) (x .2)))
 
 -- whatever is read
 reading-answers : (g : Geometry) (font : List ℕ) (s : State) (r : Reading)
@@ -246,18 +248,18 @@ reading-answers g font s (More p) =
 reading-answers g font s (Whole c) =
     let s₀ = withHalf s Nothing in
     let a = command-answers g font s₀ c in
-    let ten = a-command c (λ q. After17 g s₀ q (askedOf g s₀ q .tooLarge ≡ false)) (a .number-10) in
+    let ten = a-command g s₀ c (λ q. After17 s₀ q (q .tooLarge ≡ false)) (a .number-10) in
     record {
       listed = number-range (commandOf g font s₀ c .outcome);
       number-9 = neither (a .no-9) true≢false;
       number-10 = (λ e. inr (ten .0 e), ⊎-elim (λ e. absurd (false≢true e)) (ten .1));
-      number-11 = a-command c (λ q. After15 s₀ q (askedOf g s₀ q .outOfDomain ≡ true)) (a .number-11);
+      number-11 = a-command g s₀ c (λ q. After15 s₀ q (q .outOfDomain ≡ true)) (a .number-11);
       number-12 = neither (a .no-12) (unlike (Whole c) Cancels (omega arith));
       number-13 = neither (a .no-13) (unlike (Whole c) UnknownCode (omega arith));
-      number-14 = a-command c (λ q. askedOf g s q .notCarried ≡ true) (a .number-14);
-      number-15 = a-command c (λ q. After14 q ((askedOf g s q .ownersOnly && isHeld (s₀ .hold)) ≡ true)) (a .number-15);
-      number-16 = a-command c (λ q. After17 g s₀ q (askedOf g s₀ q .tooLarge ≡ true)) (a .number-16);
-      number-17 = a-command c (λ q. After11 g s₀ q (askedOf g s₀ q .notDefined ≡ true)) (a .number-17);
+      number-14 = a-command g s₀ c (λ q. q .notCarried ≡ true) (a .number-14);
+      number-15 = a-command g s₀ c (λ q. After14 q ((q .ownersOnly && isHeld (s₀ .hold)) ≡ true)) (a .number-15);
+      number-16 = a-command g s₀ c (λ q. After17 s₀ q (q .tooLarge ≡ true)) (a .number-16);
+      number-17 = a-command g s₀ c (λ q. After11 s₀ q (q .notDefined ≡ true)) (a .number-17);
       unchanged = a .unchanged;
     }
 reading-answers g font s (Picture column row b next) =

@@ -59,27 +59,10 @@ module _ (ps : List Span) (s : State) where
   placed-same k = ap (λ (q : State). becomes q) (at-same k)
 
   module _ (g : Geometry) where
-    -- what 11, 17 and 16 test
-    tests-same : (c : Command)
-        → (askedOf g (withSpans s ps) c .outOfDomain ≡ askedOf g s c .outOfDomain) × (askedOf g (withSpans s ps) c .notDefined ≡ askedOf g s c .notDefined)
-        × (askedOf g (withSpans s ps) c .tooLarge ≡ askedOf g s c .tooLarge)
-    unfolding askedOf insideWindow viewOf
-    tests-same (Character b) = (refl, refl, refl)
-    tests-same Back = (refl, refl, refl)
-    tests-same Tab = (refl, refl, refl)
-    tests-same LineFeed = (refl, refl, refl)
-    tests-same Home = (refl, refl, refl)
-    tests-same Clear = (refl, refl, refl)
-    tests-same Return = (refl, refl, refl)
-    tests-same (Select k) = (refl, refl, refl)
-    tests-same Initialise = (refl, refl, refl)
-    tests-same (Mode n) = (refl, refl, refl)
-    tests-same (Set key n) = (refl, refl, refl)
-    tests-same (Enlarge x y) = (refl, refl, refl)
-    tests-same (CursorSet x y) = (refl, refl, refl)
-    tests-same (Define a left top width height) = (refl, refl, refl)
-    tests-same (Cancel a) = (refl, refl, refl)
-    tests-same Uncarried = (refl, refl, refl)
+    -- what a command is asked
+    asked-same : (c : Command) → askedOf g (withSpans s ps) c ≡ askedOf g s c
+    unfolding insideWindow viewOf
+    asked-same c = refl
 
     -- a move of the range
     moved-same : (t : Moved) → moves (withSpans s ps) t ≡ respan ps (moves s t)
@@ -111,8 +94,7 @@ module _ (ps : List Span) (s : State) where
     command-same : (font : List ℕ) (c : Command) → commandOf g font (withSpans s ps) c ≡ respan ps (commandOf g font s c)
     unfolding commandOf
     command-same font c =
-        let same = tests-same c in
-        rw (same .0, same .1, same .2, carried-same font c)
+        rw (asked-same c, carried-same font c)
         (same-cond (respan ps) (askedOf g s c .notCarried) (answered-same NotCarried)
         (same-cond (respan ps) (askedOf g s c .ownersOnly && isHeld (s .hold)) (answered-same WindowHeld)
         (same-cond (respan ps) (askedOf g s c .outOfDomain) (answered-same OutOfDomain)

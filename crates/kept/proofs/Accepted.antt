@@ -17,7 +17,7 @@ use Rattle.paper.specs.Strokes.{Stroke}
 use Rattle.paper.specs.Settings.{initialStyle, initialSettings, topLeft, initialState, inDomain, inEnlargement, withHalf, withSpans, windowAt, isDefined, selectable, fits, newWindow, defined, cursorOf, cursor, inMode, insideWindow, viewOf}
 use Rattle.paper.specs.Bounds.{settingsOk, isBlank, windowOk, windowsOk, holdOk, spansOk, halfOk, accepted}
 use Rattle.paper.specs.Moves.{Moved}
-use Rattle.paper.specs.Carry.{moves, becomes, askedOf, widthNow, heightNow, carriedOut, imageStrokes, byteMeans}
+use Rattle.paper.specs.Carry.{moves, becomes, asks, widthNow, heightNow, carriedOut, imageStrokes, byteMeans}
 use Rattle.paper.specs.Calls.{Feeding, next, run, settled}
 use Rattle.laws.specs.Readings.{commandOk}
 use Rattle.laws.proofs.Tests.{between-facts}
@@ -84,7 +84,7 @@ module _ (g : Geometry) (u : Usable g) where
 
     -- every command that is carried out
     pub carried-sound : (font : List ℕ) (c : Command) → commandOk c ≡ true → Allowed g s c → Sound g (carriedOut g font s c)
-    unfolding carriedOut commandOk askedOf inMode
+    unfolding carriedOut commandOk asks inMode
     carried-sound font (Character b) o a =
         let v = viewOf g s in
         moved-sound _ (character-kept g font (s .settings .width) (s .settings .style) b v (view-room g u s h (a .room)))

@@ -25,7 +25,7 @@ use Rattle.paper.specs.Strokes.{Stroke}
 use Rattle.paper.specs.Settings.{noWindow, withHalf, windowAt, withCursor, atCursor, inMode, viewOf}
 use Rattle.paper.specs.Bounds.{holdOk, halfOk, accepted}
 use Rattle.paper.specs.Moves.{Moved}
-use Rattle.paper.specs.Carry.{Meaning, moves, becomes, isHeld, askedOf, widthNow, heightNow, carriedOut, imageStrokes, byteMeans}
+use Rattle.paper.specs.Carry.{Meaning, moves, becomes, isHeld, asks, widthNow, heightNow, carriedOut, imageStrokes, byteMeans}
 use Rattle.paper.specs.Calls.{isAccepted, feedRefusal, Feeding, next, run, fedNothing, feedCall, settled}
 use Rattle.kept.specs.Room.{Usable, AllIn, Kept}
 use Rattle.kept.specs.Guest.{Holding, Guest, OnlyInside}
@@ -116,7 +116,7 @@ module _ (s : State) (user : eqb (s .selected) 0 ≡ false) where
   -- every command that is carried out while a window is held
   carried-within : (g : Geometry) → Usable g → (font : List ℕ) → accepted g s ≡ true → isHeld (s .hold) ≡ true
       → (c : Command) → Allowed g s c → Within s (carriedOut g font s c)
-  unfolding carriedOut askedOf inMode
+  unfolding carriedOut asks inMode
   carried-within g u font h held (Character b) a =
       let v = viewOf g s in
       moved-within g _ (character-kept g font (s .settings .width) (s .settings .style) b v (view-room g u s h (a .room)))

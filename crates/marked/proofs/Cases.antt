@@ -17,7 +17,7 @@ use Rattle.paper.specs.Settings.{initialStyle, initialSettings, topLeft, initia
 use Rattle.paper.specs.Bounds.{settingsOk, cursorOk, isBlank, windowOk, windowsOk, holdOk, spanOk, wordOk, halfOk, accepted}
 use Rattle.paper.specs.Cells.{cellDot, penned, cellWidth, tooLarge}
 use Rattle.paper.specs.Moves.{nextLine, nextLineUp, pushLeft, htOf, drawTab, blankTab, characterOf, lineDown, lineDownUp, lineFeedOf, clearOf}
-use Rattle.paper.specs.Carry.{askedOf, isHeld, carriedOut, commandOf, takeOf, byteMeans}
+use Rattle.paper.specs.Carry.{asks, isHeld, carriedOut, commandOf, takeOf, byteMeans}
 use Rattle.paper.specs.Calls.{isAccepted, startRefusal, startCall, feedRefusal, Feeding, next, run, fedNothing, feedCall, holdRefusal, heldBy, holdCall, refreshRefusal, emptied, refreshCall}
 use Rattle.laws.proofs.Dots.{byte-rule}
 use Rattle.marked.proofs.Typed.{runs-alike}
@@ -76,7 +76,7 @@ a-font = record { size = refl; bytes = λ k. same-bytes 1120 0xFE k (omega arith
 -- ---- the cases
 
 pub marked : (font : List ℕ) → Font font → Marked font
-unfolding begun fresh startCall startRefusal isAccepted refreshCall refreshRefusal emptied refreshed shown panel byteOf glyphDot rectMap grown grownBy outcomeNumber refusalNumber carriedBy answeredBy readMove readFirst readEscape readUnit readGroup readPictures readWindows readWindowB readWord readOf initialStyle initialSettings topLeft initialState inDomain inEnlargement selectable fits cursorOf atCursor inMode insideWindow baseView viewOf cursorIn settingsOk cursorOk isBlank windowOk windowsOk holdOk spanOk wordOk halfOk accepted cellDot penned cellWidth tooLarge nextLine nextLineUp pushLeft htOf drawTab blankTab characterOf lineDown lineDownUp lineFeedOf clearOf askedOf isHeld carriedOut commandOf takeOf byteMeans next holdRefusal heldBy holdCall dotsBelow dotsAbove
+unfolding begun fresh startCall startRefusal isAccepted refreshCall refreshRefusal emptied refreshed shown panel byteOf glyphDot rectMap grown grownBy outcomeNumber refusalNumber carriedBy answeredBy readMove readFirst readEscape readUnit readGroup readPictures readWindows readWindowB readWord readOf initialStyle initialSettings topLeft initialState inDomain inEnlargement selectable fits cursorOf atCursor inMode insideWindow baseView viewOf cursorIn settingsOk cursorOk isBlank windowOk windowsOk holdOk spanOk wordOk halfOk accepted cellDot penned cellWidth tooLarge nextLine nextLineUp pushLeft htOf drawTab blankTab characterOf lineDown lineDownUp lineFeedOf clearOf asks isHeld carriedOut commandOf takeOf byteMeans next holdRefusal heldBy holdCall dotsBelow dotsAbove
 marked font f = record {
   fresh-memory = refl;
   case-1 = on [];

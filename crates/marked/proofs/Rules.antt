@@ -6,11 +6,11 @@ use Rattle.paper.specs.Panel.{panel}
 use Rattle.paper.specs.Settings.{initialStyle, initialSettings, topLeft, initialState, baseView, viewOf}
 use Rattle.paper.specs.Cells.{cellWidth, tooLarge}
 use Rattle.paper.specs.Moves.{nextLine, nextLineUp, pushLeft, htOf, drawTab, blankTab, characterOf, lineDownUp, lineFeedOf, clearOf}
-use Rattle.paper.specs.Carry.{askedOf, isHeld, carriedOut, commandOf, imageStrokes, takeOf}
+use Rattle.paper.specs.Carry.{asks, isHeld, carriedOut, commandOf, imageStrokes, takeOf}
 use Rattle.marked.specs.Rules.{Rules}
 
 pub rules : (font : List ℕ) → Rules font
-unfolding panel initialStyle initialSettings topLeft initialState baseView viewOf cellWidth tooLarge nextLine nextLineUp pushLeft htOf drawTab blankTab characterOf lineDownUp lineFeedOf clearOf askedOf isHeld carriedOut commandOf imageStrokes takeOf
+unfolding panel initialStyle initialSettings topLeft initialState baseView viewOf cellWidth tooLarge nextLine nextLineUp pushLeft htOf drawTab blankTab characterOf lineDownUp lineFeedOf clearOf asks isHeld carriedOut commandOf imageStrokes takeOf
 rules font =
     record {
       a-character = refl;

@@ -21,7 +21,7 @@ use Rattle.paper.specs.Reading.{readFirst, readOf}
 use Rattle.paper.specs.Settings.{withHalf, withSpans, withView, atCursor, viewOf}
 use Rattle.paper.specs.Cells.{cellWidth, cellHeight, drawStroke}
 use Rattle.paper.specs.Moves.{Moved, andThen, htOf, drawTab, blankTab, characterOf}
-use Rattle.paper.specs.Carry.{Meaning, notCarried, ownersOnly, outOfDomain, notDefined, exceeds, cellExceeds, moves, carriedOut, answers, commandOf, takeOf, byteMeans}
+use Rattle.paper.specs.Carry.{Meaning, asks, exceeds, moves, carriedOut, answers, commandOf, takeOf, byteMeans}
 use Rattle.paper.specs.Calls.{settled, Feeding, next, run}
 use Rattle.dots.proofs.Spans.{marks-append}
 use Rattle.kept.proofs.Tests.{by-cond}
@@ -84,7 +84,7 @@ module _ (g : Geometry) (font : List ℕ) where
 
   -- the state that a character leaves
   command-alike : (s : State) (c d : ℕ) → settled (commandOf g font s (Character c)) ≡ settled (commandOf g font s (Character d))
-  unfolding commandOf notCarried ownersOnly outOfDomain notDefined cellExceeds carriedOut
+  unfolding commandOf asks carriedOut
   command-alike s c d = go (exceeds g s) where
     typing : ℕ → Moved
     typing n = characterOf g font (s .settings .width) (s .settings .style) n (viewOf g s)
@@ -95,7 +95,7 @@ module _ (g : Geometry) (font : List ℕ) where
 
   -- nothing is half read after it
   command-half : (s : State) (c : ℕ) → s .half ≡ Nothing → commandOf g font s (Character c) .state .half ≡ Nothing
-  unfolding commandOf notCarried ownersOnly outOfDomain notDefined cellExceeds carriedOut atCursor
+  unfolding commandOf asks carriedOut atCursor
   command-half s c e =
       by-cond (λ (t : Meaning). t .state .half ≡ Nothing) (exceeds g s) (λ _. e)
       (λ _. by-cond (λ (q : State). q .half ≡ Nothing) (eqb (s .selected) 0) (λ _. e) (λ _. e))

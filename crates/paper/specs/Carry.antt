@@ -92,34 +92,28 @@ abbrev pub asked : Bool → Bool → Bool → Bool → Bool → Asked
 asked n14 n15 n11 n17 n16 =
     record { notCarried = n14; ownersOnly = n15; outOfDomain = n11; notDefined = n17; tooLarge = n16 }
 
--- a command that is asked for room for its cell; one that is asked for its domain alone; one that is asked nothing
-abbrev pub inCell : Geometry → State → Asked
-inCell g s = asked false false false false (exceeds g s)
+-- A row for each command: 14, 15, 11, 17, 16. What a row asks of the state is handed in: whether a place lies inside the current
+-- window ("Cursor set ..; outside the window it is answered 11"), whether a window may be selected, whether the cell exceeds the range.
+unfoldable pub asks : Geometry → (ℕ → ℕ → Bool) → (ℕ → Bool) → Bool → Command → Asked
+asks g inside selects large (Character b) = asked false false false false large
+asks g inside selects large Back = asked false false false false large
+asks g inside selects large Tab = asked false false false false large
+asks g inside selects large LineFeed = asked false false false false large
+asks g inside selects large Home = asked false false false false false
+asks g inside selects large Clear = asked false false false false false
+asks g inside selects large Return = asked false false false false false
+asks g inside selects large (Select k) = asked false true (ltb 4 k) (not (selects k)) false
+asks g inside selects large Initialise = asked false true false false false
+asks g inside selects large (Mode n) = asked false false false false false
+asks g inside selects large (Set key n) = asked (notCarriedValue key n) (isWrite key) (not (inDomain key n)) false false
+asks g inside selects large (Enlarge x y) = asked false false (not (inEnlargement x y)) false false
+asks g inside selects large (CursorSet x y) = asked false false (not (inside x y)) false false
+asks g inside selects large (Define a left top width height) = asked false true (not (fits g left top width height)) false false
+asks g inside selects large (Cancel a) = asked false true false false false
+asks g inside selects large Uncarried = asked true false false false false
 
-abbrev pub inDomainOnly : Bool → Asked
-inDomainOnly ok = asked false false (not ok) false false
-
-abbrev pub always : Asked
-always = asked false false false false false
-
--- A row for each command: 14, 15, 11, 17, 16. "Cursor set counts from the window's top left; outside the window it is answered 11."
-unfoldable pub askedOf : Geometry → State → Command → Asked
-askedOf g s (Character b) = inCell g s
-askedOf g s Back = inCell g s
-askedOf g s Tab = inCell g s
-askedOf g s LineFeed = inCell g s
-askedOf g s Home = always
-askedOf g s Clear = always
-askedOf g s Return = always
-askedOf g s (Select k) = asked false true (ltb 4 k) (not (selectable (s .windows) k)) false
-askedOf g s Initialise = asked false true false false false
-askedOf g s (Mode n) = always
-askedOf g s (Set key n) = asked (notCarriedValue key n) (isWrite key) (not (inDomain key n)) false false
-askedOf g s (Enlarge x y) = inDomainOnly (inEnlargement x y)
-askedOf g s (CursorSet x y) = inDomainOnly (insideWindow g s x y)
-askedOf g s (Define a left top width height) = asked false true (not (fits g left top width height)) false false
-askedOf g s (Cancel a) = asked false true false false false
-askedOf g s Uncarried = asked true false false false false
+abbrev pub askedOf : Geometry → State → Command → Asked
+askedOf g s c = asks g (insideWindow g s) (selectable (s .windows)) (exceeds g s) c
 
 -- ---- what a command that is carried out does
 

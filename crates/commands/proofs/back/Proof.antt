@@ -10,7 +10,7 @@ use Rattle.paper.specs.declared.View.{View}
 use Rattle.paper.specs.Settings.{viewOf, withView}
 use Rattle.paper.specs.Cells.{cellWidth, cellHeight, tooLarge}
 use Rattle.paper.specs.Moves.{only, backOf}
-use Rattle.paper.specs.Carry.{askedOf, carriedOut, widthNow, heightNow}
+use Rattle.paper.specs.Carry.{asks, carriedOut, widthNow, heightNow}
 use Rattle.kept.proofs.Moves.{back-kept}
 use Rattle.kept.proofs.Views.{view-place, view-room}
 use Rattle.commands.proofs.Answers.{is-16, is-10, says, ends-at}
@@ -33,7 +33,7 @@ ends-requires : tie.Need-ends-requires
 ends-requires c κs = search needs
 
 returns : tie.Need-returns
-unfolding askedOf carriedOut
+unfolding asks carriedOut
 returns c font = says (c .ends .ensures)
     (is-16 _ font _ Back refl refl refl refl
     (tested _ _ _ _ _ true (c .before .before .before .before .before .view-of .ensures) (c .before .before .is-too-large .ensures) (c .before .if1 .taken)))
@@ -67,7 +67,7 @@ ends-requires-2 : tie.Need-ends-requires-2
 ends-requires-2 c κs = search needs
 
 returns-2 : tie.Need-returns-2
-unfolding askedOf carriedOut
+unfolding asks carriedOut
 returns-2 c font = says
     (ends-at (c .ends2 .ensures)
     (c .before .with-view .ensures

@@ -2,7 +2,7 @@
 use borrow.Author.Needs.{needs}
 use mathlib.Core.Path.{refl, sym, _∙_}
 use Rattle.paper.specs.declared.Command.the-variants.{Cancel}
-use Rattle.paper.specs.Carry.{askedOf, carriedOut}
+use Rattle.paper.specs.Carry.{asks, carriedOut}
 use Rattle.commands.proofs.Answers.{is-15, is-10, says, ends-at}
 use Rattle.commands.proofs.cancel.Statement.{statement}
 use Rattle.commands.proofs.cancel.Tie as tie
@@ -11,7 +11,7 @@ ends-requires : tie.Need-ends-requires
 ends-requires c κs = search needs
 
 returns : tie.Need-returns
-unfolding askedOf carriedOut
+unfolding asks carriedOut
 returns c font = says (c .ends .ensures) (is-15 _ font _ (Cancel _) refl (sym (c .before .before .pre .0) ∙ c .before .if1 .taken))
 
 cancel-requires : tie.Need-cancel-requires
@@ -21,7 +21,7 @@ ends-requires-2 : tie.Need-ends-requires-2
 ends-requires-2 c κs = search needs
 
 returns-2 : tie.Need-returns-2
-unfolding askedOf carriedOut
+unfolding asks carriedOut
 returns-2 c font = says (ends-at (c .ends2 .ensures) (c .before .cancel .ensures))
     (is-10 _ font _ (Cancel _)
     (record {

@@ -3,7 +3,7 @@ use borrow.Author.Needs.{needs}
 use mathlib.Core.Path.{refl, sym, ap, _∙_}
 use mathlib.Core.Bool.{not}
 use Rattle.paper.specs.declared.Command.the-variants.{Enlarge}
-use Rattle.paper.specs.Carry.{askedOf, carriedOut}
+use Rattle.paper.specs.Carry.{asks, carriedOut}
 use Rattle.commands.proofs.Answers.{is-11, is-10, says, ends-at}
 use Rattle.paper.specs.declared.Settings.{Settings}
 use Rattle.paper.specs.Settings.{withSettings}
@@ -20,7 +20,7 @@ ends-requires : tie.Need-ends-requires
 ends-requires c κs = search needs
 
 returns : tie.Need-returns
-unfolding askedOf carriedOut
+unfolding asks carriedOut
 returns c font = says
     (ends-at (c .ends .ensures)
     (ap (λ (v : Settings). withSettings (c .before .before .before .before .before .before .before .before .args .s) v) (c .before .before .before .before .enlarge .ensures)))
@@ -37,7 +37,7 @@ ends-requires-2 : tie.Need-ends-requires-2
 ends-requires-2 c κs = search needs
 
 returns-2 : tie.Need-returns-2
-unfolding askedOf carriedOut
+unfolding asks carriedOut
 returns-2 c font = says (c .ends2 .ensures)
     (is-11 _ font _ (Enlarge _ _) refl refl (ap not (sym (c .before .before .in-enlargement .ensures) ∙ c .before .if1 .left)))
 

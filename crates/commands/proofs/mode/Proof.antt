@@ -2,7 +2,7 @@
 use borrow.Author.Needs.{needs}
 use mathlib.Core.Path.{refl}
 use Rattle.paper.specs.declared.Command.the-variants.{Mode}
-use Rattle.paper.specs.Carry.{askedOf, carriedOut}
+use Rattle.paper.specs.Carry.{asks, carriedOut}
 use Rattle.commands.proofs.Answers.{is-10, says, ends-at}
 use Rattle.commands.proofs.mode.Statement.{statement}
 use Rattle.commands.proofs.mode.Tie as tie
@@ -14,7 +14,7 @@ ends-requires : tie.Need-ends-requires
 ends-requires c κs = search needs
 
 returns : tie.Need-returns
-unfolding askedOf carriedOut
+unfolding asks carriedOut
 returns c font = says (ends-at (c .ends .ensures) (c .before .in-mode .ensures))
     (is-10 _ font _ (Mode _) (record { carried = refl; owner = refl; domain = refl; defined = refl; room = refl }))
 

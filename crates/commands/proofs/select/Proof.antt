@@ -4,7 +4,7 @@ use mathlib.Core.Path.{refl, sym, ap, _∙_}
 use mathlib.Core.Bool.{not}
 use borrow.Author.Tests.{lt-ltb, le-ltb}
 use Rattle.paper.specs.declared.Command.the-variants.{Select}
-use Rattle.paper.specs.Carry.{askedOf, carriedOut}
+use Rattle.paper.specs.Carry.{asks, carriedOut}
 use Rattle.commands.proofs.Answers.{is-15, is-11, is-17, is-10, says}
 use Rattle.commands.proofs.select.Statement.{statement}
 use Rattle.commands.proofs.select.Tie as tie
@@ -13,14 +13,14 @@ ends-requires : tie.Need-ends-requires
 ends-requires c κs = search needs
 
 returns : tie.Need-returns
-unfolding askedOf carriedOut
+unfolding asks carriedOut
 returns c font = says (c .ends .ensures) (is-15 _ font _ (Select _) refl (sym (c .before .before .pre) ∙ c .before .if1 .taken))
 
 ends-requires-2 : tie.Need-ends-requires-2
 ends-requires-2 c κs = search needs
 
 returns-2 : tie.Need-returns-2
-unfolding askedOf carriedOut
+unfolding asks carriedOut
 returns-2 c font = says (c .ends2 .ensures)
     (is-11 _ font _ (Select _) refl (sym (c .before .before .before .pre) ∙ c .before .before .if1 .left)
     (lt-ltb 4 _ (c .before .if2 .taken)))
@@ -32,7 +32,7 @@ ends-requires-3 : tie.Need-ends-requires-3
 ends-requires-3 c κs = search needs
 
 returns-3 : tie.Need-returns-3
-unfolding askedOf carriedOut
+unfolding asks carriedOut
 returns-3 c font = says (c .ends3 .ensures)
     (is-10 _ font _ (Select _)
     (record {
@@ -50,7 +50,7 @@ ends-requires-4 : tie.Need-ends-requires-4
 ends-requires-4 c κs = search needs
 
 returns-4 : tie.Need-returns-4
-unfolding askedOf carriedOut
+unfolding asks carriedOut
 returns-4 c font = says (c .ends4 .ensures)
     (is-17 _ font _ (Select _) refl
     (sym (c .before .before .before .before .before .before .pre) ∙ c .before .before .before .before .before .if1 .left)

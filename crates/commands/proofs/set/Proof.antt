@@ -3,7 +3,7 @@ use borrow.Author.Needs.{needs}
 use mathlib.Core.Path.{refl, sym, ap, ap₂, _∙_}
 use mathlib.Core.Bool.{not, _&&_}
 use Rattle.paper.specs.declared.Command.the-variants.{Set}
-use Rattle.paper.specs.Carry.{askedOf, carriedOut}
+use Rattle.paper.specs.Carry.{asks, carriedOut}
 use Rattle.commands.proofs.Answers.{is-14, is-15, is-11, is-10, says, ends-at}
 use Rattle.paper.specs.declared.Settings.{Settings}
 use Rattle.paper.specs.Settings.{withSettings}
@@ -17,7 +17,7 @@ ends-requires : tie.Need-ends-requires
 ends-requires c κs = search needs
 
 returns : tie.Need-returns
-unfolding askedOf carriedOut
+unfolding asks carriedOut
 returns c font = says (c .ends .ensures) (is-14 _ font _ (Set _ _) (sym (c .before .before .not-carried-value .ensures) ∙ c .before .if1 .taken))
 
 is-write-requires : tie.Need-is-write-requires
@@ -27,7 +27,7 @@ ends-requires-2 : tie.Need-ends-requires-2
 ends-requires-2 c κs = search needs
 
 returns-2 : tie.Need-returns-2
-unfolding askedOf carriedOut
+unfolding asks carriedOut
 returns-2 c font = says (c .ends2 .ensures)
     (is-15 _ font _ (Set _ _) (sym (c .before .before .before .before .not-carried-value .ensures) ∙ c .before .before .before .if1 .left)
     (sym (ap₂ _&&_ (c .before .before .is-write .ensures) (c .before .before .before .before .before .pre)) ∙ c .before .if2 .taken))
@@ -42,7 +42,7 @@ ends-requires-3 : tie.Need-ends-requires-3
 ends-requires-3 c κs = search needs
 
 returns-3 : tie.Need-returns-3
-unfolding askedOf carriedOut
+unfolding asks carriedOut
 returns-3 c font = says
     (ends-at (c .ends3 .ensures)
     (ap (λ (v : Settings). withSettings (c .before .before .before .before .before .before .before .before .before .before .before .before .args .s) v) (c .before .before .before .before .with-setting .ensures)))
@@ -59,7 +59,7 @@ ends-requires-4 : tie.Need-ends-requires-4
 ends-requires-4 c κs = search needs
 
 returns-4 : tie.Need-returns-4
-unfolding askedOf carriedOut
+unfolding asks carriedOut
 returns-4 c font = says (c .ends4 .ensures)
     (is-11 _ font _ (Set _ _) (sym (c .before .before .before .before .before .before .not-carried-value .ensures) ∙ c .before .before .before .before .before .if1 .left)
     (sym (ap₂ _&&_ (c .before .before .before .before .is-write .ensures) (c .before .before .before .before .before .before .before .pre)) ∙ c .before .before .before .if2 .left)

@@ -3,7 +3,7 @@ use borrow.Author.Needs.{needs}
 use mathlib.Core.Path.{refl, sym, ap, _∙_}
 use mathlib.Core.Bool.{not}
 use Rattle.paper.specs.declared.Command.the-variants.{CursorSet}
-use Rattle.paper.specs.Carry.{askedOf, carriedOut}
+use Rattle.paper.specs.Carry.{asks, carriedOut}
 use Rattle.commands.proofs.Answers.{is-11, is-10, says, ends-at}
 use Rattle.paper.specs.declared.Cursor.{Cursor}
 use Rattle.paper.specs.Settings.{atCursor, cursor}
@@ -23,7 +23,7 @@ ends-requires : tie.Need-ends-requires
 ends-requires c κs = search needs
 
 returns : tie.Need-returns
-unfolding askedOf carriedOut
+unfolding asks carriedOut
 returns c font = says
     (ends-at (c .ends .ensures)
     (c .before .at-cursor .ensures
@@ -42,7 +42,7 @@ ends-requires-2 : tie.Need-ends-requires-2
 ends-requires-2 c κs = search needs
 
 returns-2 : tie.Need-returns-2
-unfolding askedOf carriedOut
+unfolding asks carriedOut
 returns-2 c font = says (c .ends2 .ensures)
     (is-11 _ font _ (CursorSet _ _) refl refl (ap not (sym (c .before .before .inside-window .ensures) ∙ c .before .if1 .left)))
 

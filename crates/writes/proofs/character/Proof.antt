@@ -6,7 +6,7 @@ use native.Mathlib.Omega.{arith}
 use Rattle.paper.specs.declared.Command.the-variants.{Character}
 use Rattle.paper.specs.Settings.{viewOf}
 use Rattle.paper.specs.Moves.{characterOf}
-use Rattle.paper.specs.Carry.{askedOf, carriedOut}
+use Rattle.paper.specs.Carry.{asks, carriedOut}
 use Rattle.commands.proofs.Answers.{is-16, is-10, ends-at}
 use Rattle.commands.proofs.Facts.{selected-small}
 use Rattle.kept.proofs.Moves.{character-kept}
@@ -28,7 +28,7 @@ ends-requires : tie.Need-ends-requires
 ends-requires c κs = search needs
 
 returns : tie.Need-returns
-unfolding askedOf carriedOut
+unfolding asks carriedOut
 returns c = let start = c .before .before .before .before .before .before .before .before in
     does-answer (c .ends .ensures)
     (is-16 (start .args .g) (start .args .font .now) (start .args .s) (Character (start .args .code)) refl refl refl refl
@@ -65,7 +65,7 @@ same-length : tie.Need-same-length
 same-length c = search needs
 
 returns-2 : tie.Need-returns-2
-unfolding askedOf carriedOut
+unfolding asks carriedOut
 returns-2 c = let start = c .before .before .before .before .before .before .before .before .before .before .before .before .before in
     let v = start .args .s .settings in
     does-move (start .args .s) (characterOf (start .args .g) (start .args .font .now) (v .width) (v .style) (start .args .code) (viewOf (start .args .g) (start .args .s)))

@@ -5,7 +5,7 @@ use native.Mathlib.Omega.{arith}
 use Rattle.paper.specs.declared.Command.the-variants.{Clear}
 use Rattle.paper.specs.Settings.{viewOf}
 use Rattle.paper.specs.Moves.{clearOf}
-use Rattle.paper.specs.Carry.{askedOf, carriedOut}
+use Rattle.paper.specs.Carry.{asks, carriedOut}
 use Rattle.commands.proofs.Answers.{is-10, ends-at}
 use Rattle.commands.proofs.Facts.{selected-small}
 use Rattle.kept.proofs.Moves.{clear-kept}
@@ -41,7 +41,7 @@ same-length : tie.Need-same-length
 same-length c = search needs
 
 returns : tie.Need-returns
-unfolding askedOf carriedOut
+unfolding asks carriedOut
 returns c font = let start = c .before .before .before .before .before .before .before .before in
     let s = start .args .s in
     does-move s (clearOf (viewOf (start .args .g) s)) (rw (c .before .before .before .before .before .before .pen-of .ensures) at (c .before .before .before .before .clear .ensures))

@@ -2,7 +2,7 @@
 use borrow.Author.Needs.{needs}
 use mathlib.Core.Path.{refl, sym, _∙_}
 use Rattle.paper.specs.declared.Command.the-variants.{Initialise}
-use Rattle.paper.specs.Carry.{askedOf, carriedOut}
+use Rattle.paper.specs.Carry.{asks, carriedOut}
 use Rattle.commands.proofs.Answers.{is-15, is-10}
 use Rattle.writes.proofs.Wrote.{does-answer, does-erase}
 use Rattle.writes.proofs.initialise.Statement.{statement}
@@ -12,7 +12,7 @@ ends-requires : tie.Need-ends-requires
 ends-requires c κs = search needs
 
 returns : tie.Need-returns
-unfolding askedOf carriedOut
+unfolding asks carriedOut
 returns c font = let start = c .before .before .before in
     does-answer (c .ends .ensures)
     (is-15 (start .args .g) font (start .args .s) Initialise refl (sym (start .pre .1) ∙ c .before .if1 .taken))
@@ -33,7 +33,7 @@ same-length : tie.Need-same-length
 same-length c = search needs
 
 returns-2 : tie.Need-returns-2
-unfolding askedOf carriedOut
+unfolding asks carriedOut
 returns-2 c font = let start = c .before .before .before .before .before .before .before .before .before .before .before .before .before in
     does-erase (start .args .s) (c .before .before .before .before .before .before .before .before .before .clear .ensures) (c .before .before .before .before .before .mark .ensures) (c .before .before .before .before .initial-state .ensures) (c .ends2 .ensures)
     (is-10 (start .args .g) font (start .args .s) Initialise
