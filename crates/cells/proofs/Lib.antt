@@ -1,4 +1,5 @@
--- Laws that belong to no one function: of columns mixed into memory, of a walk over a cell's columns, and, for callers, of strokes.
+-- Laws that belong to no one function: of columns mixed into memory, of cells walked over or stamped, of strokes for callers.
 mod Columns
 mod Walks
+mod Stamps
 pub mod Strokes

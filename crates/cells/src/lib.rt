@@ -11,7 +11,7 @@ ghost use Rattle.paper.specs.Cells.{cellWidth};
 ghost use Rattle.laws.specs.Bytes.{double, placedByte, glyphColumn, reversedByte, mixedByte};
 ghost use Rattle.dots.specs.Rectangles.{Fits, Within};
 ghost use Rattle.cells.specs.Drawn.{drawn, blanked, imaged};
-ghost use Rattle.cells.specs.Columns.{tallOf, inkColumn, nextOf, mixedAt, mixedColumn};
+ghost use Rattle.cells.specs.Columns.{tallOf, inkColumn, nextOf, mixedAt, mixedColumn, stamped};
 
 // A column of a cell repeated downwards: the bytes of its two rows. A cell one row high has the first alone.
 struct Tall {
@@ -169,8 +169,54 @@ fn mix_column(
     mix(g, mem, style, x, top + 1, t.lower);
 }
 
-// The cell of a code at the cursor (left, top): the part of it that lies in the rectangle.
-pub fn draw(
+// Mixes `count` columns of a code's cell into memory, from its column `first` on, one row high and not enlarged.
+fn stamp_columns(
+    g: Geometry,
+    mem: &mut [u8],
+    font: &[u8],
+    code: u8,
+    w: u8,
+    style: Style,
+    left: usize,
+    top: usize,
+    first: usize,
+    count: usize,
+)
+    requires { ⌜ Within g left top count 1 × Fits g (now mem) × (first + count < 2 ^ 64) ⌝ }
+    requires { ⌜ (length (now font) ≡ fontLength) × (0x20 ≤ code) ⌝ }
+    ensures { λ _. ⌜ now (mem .exit) ≡ stamped g (now (font .entry)) code w style left top first count (now (mem .entry)) ⌝ }
+{
+    for j in 0..count {
+        let v = placed(top, glyph_column(font, code, w, first + j));
+        mix(g, mem, style, left + j, top, reversed(style, v));
+    }
+}
+
+// A whole cell one row high that is not enlarged: its blank columns, the glyph's five, and the last.
+fn stamp(
+    g: Geometry,
+    mem: &mut [u8],
+    font: &[u8],
+    code: u8,
+    w: u8,
+    style: Style,
+    left: usize,
+    top: usize,
+)
+    requires { ⌜ Within g left top (w + 6) 1 × Fits g (now mem) ⌝ }
+    requires { ⌜ (length (now font) ≡ fontLength) × (0x20 ≤ code) ⌝ }
+    requires { ⌜ (style .across ≡ 1) × (style .down ≡ 1) ⌝ }
+    ensures { λ _. ⌜ now (mem .exit) ≡ drawn g (now (font .entry)) code w style left top (w + 6) 1 (now (mem .entry)) ⌝ }
+{
+    let blanks = w as usize;
+    let last = blanks + 5;
+    stamp_columns(g, mem, font, code, w, style, left, top, 0, blanks);
+    stamp_columns(g, mem, font, code, w, style, left + blanks, top, blanks, 5);
+    stamp_columns(g, mem, font, code, w, style, left + last, top, last, 1);
+}
+
+// A cell column by column, each repeated across and down.
+fn walk_over(
     g: Geometry,
     mem: &mut [u8],
     font: &[u8],
@@ -197,6 +243,32 @@ pub fn draw(
         let t = walk.column;
         mix_column(g, mem, style, left + j, top, height, t);
     }
+}
+
+// The cell of a code at the cursor (left, top): the part of it that lies in the rectangle.
+pub fn draw(
+    g: Geometry,
+    mem: &mut [u8],
+    font: &[u8],
+    code: u8,
+    w: u8,
+    style: Style,
+    left: usize,
+    top: usize,
+    width: usize,
+    height: usize,
+)
+    requires { ⌜ Within g left top width height × Fits g (now mem) ⌝ }
+    requires { ⌜ (length (now font) ≡ fontLength) × (0x20 ≤ code) ⌝ }
+    requires { ⌜ (1 ≤ style .across) × (style .down ≤ 2) × (height ≤ style .down) ⌝ }
+    ensures { λ _. ⌜ now (mem .exit) ≡ drawn g (now (font .entry)) code w style left top width height (now (mem .entry)) ⌝ }
+{
+    let whole = (w as usize) + 6;
+    if (style.across == 1) & (style.down == 1) & (height == 1) & (width == whole) {
+        stamp(g, mem, font, code, w, style, left, top);
+        return;
+    }
+    walk_over(g, mem, font, code, w, style, left, top, width, height);
 }
 
 // The all-off cell of a wrap at the cursor (left, top): the part of it that lies in the rectangle.

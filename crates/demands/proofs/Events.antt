@@ -36,10 +36,22 @@ use Rattle.dots.proofs.Glass.{covered, covered-facts, covered-test, refreshed-l
 use Rattle.dots.proofs.Tests.{not-both}
 use Rattle.stroke_laws.specs.Synced.{Synced}
 use Rattle.stroke_laws.proofs.Glass.{strokes-synced, refreshed-shows, refreshed-synced}
-use Rattle.demands.specs.Events.{Event, piece, refresh, joined, Play, fedThen, refreshedThen, followed, play, onwards, strokesOf, noSpans, spansSince, owed, visible}
+use Rattle.demands.specs.Events.{Event, piece, refresh, joined, Play, resting, fedThen, refreshedThen, followed, play, onwards, strokesOf, noSpans, spansSince, owed, visible}
 use Rattle.demands.specs.Demands.{holdNumber, InStep, RefreshedAt, Served}
 use Rattle.demands.proofs.Calls.{hold-answers}
 use Rattle.demands.proofs.Unseen.{run-same, run-state, run-mem, run-spans}
+use Rattle.demands.proofs.Counts.{spanned-shown}
+
+-- ---- a play that goes on from another
+
+module _ {S A : Type 0} where
+  -- nothing before it
+  pub rested : (s : S) (m glass : List ℕ) (p : Play S A) → p ≡ followed (resting s m glass) p
+  rested s m glass p = rw (zero-add (p .carried), zero-add (p .answered))
+
+  -- a feed before both
+  pub fed-first : (r : A) (c n : ℕ) (p q : Play S A) → fedThen r c n (followed p q) ≡ followed (fedThen r c n p) q
+  fed-first r c n p q = rw (add-assoc c (p .carried) (q .carried), add-assoc n (p .answered) (q .answered))
 
 -- ---- refreshes
 
@@ -59,35 +71,24 @@ module _ (g : Geometry) where
     pub passes : (a b : List Event) (s : State) (m glass : List ℕ)
         → let p = play g font s m glass a in
         play g font s m glass (a ++ b) ≡ followed p (play g font (p .state) (p .mem) (p .glass) b)
-    passes [] b s m glass =
-        let q = play g font s m glass b in
-        λ i.
-        record {
-          state = q .state;
-          mem = q .mem;
-          glass = q .glass;
-          carried = sym (zero-add (q .carried)) i;
-          answered = sym (zero-add (q .answered)) i;
-          moved = q .moved;
-          refusals = q .refusals;
-        }
+    passes [] b s m glass = rested s m glass (play g font s m glass b)
     passes (piece bs ∷ a) b s m glass =
         let f = feedCall g font s m bs in
         let p = play g font (f .answer .state) (f .mem) glass a in
-        let q = play g font (p .state) (p .mem) (p .glass) b in
-        ap (fedThen f) (passes a b (f .answer .state) (f .mem) glass)
-        ∙ (λ i.
-        record {
-          state = q .state;
-          mem = q .mem;
-          glass = q .glass;
-          carried = sym (add-assoc (f .answer .carried) (p .carried) (q .carried)) i;
-          answered = sym (add-assoc (f .answer .answered) (p .answered) (q .answered)) i;
-          moved = p .moved ++ q .moved;
-          refusals = f .answer .refusal ∷ (p .refusals ++ q .refusals);
-        })
+        ap (fedThen (f .answer .refusal) (f .answer .carried) (f .answer .answered))
+        (passes a b (f .answer .state) (f .mem) glass)
+        ∙ fed-first (f .answer .refusal) (f .answer .carried) (f .answer .answered) p
+        (play g font (p .state) (p .mem) (p .glass) b)
     passes (refresh ∷ a) b s m glass =
-        let r = refreshCall g s m glass in ap (refreshedThen r) (passes a b (r .answer .state) m (r .glass))
+        let r = refreshCall g s m glass in
+        ap (refreshedThen (r .answer .refusal) (r .answer .moved)) (passes a b (r .answer .state) m (r .glass))
+
+    -- as many spans as rows, after any events
+    since-count : (events : List Event) (q : State) (since : List Stroke)
+        → length (spansSince g font q since events) ≡ g .rows
+    since-count [] q since = span-count since
+    since-count (piece bs ∷ es) q since = since-count es (onwards g font q bs) (since ++ strokesOf g font q bs)
+    since-count (refresh ∷ es) q since = since-count es q []
 
     -- no refresh owes more than the glass has
     owed-most : (events : List Event) (q : State) (since : List Stroke) (i : ℕ)
@@ -129,9 +130,9 @@ called g q since = withSpans q (markAll (noSpans g) since)
 
 -- what stands after the events: p as the calls have it, one as the joined bytes have it from state q, `since` being what was
 -- written between the last refresh and the first event
-record Serves (g : Geometry) (font : List ℕ) (q : State) (since : List Stroke) (events : List Event) (p : Play) (one : Feeding)
+record Serves (g : Geometry) (font : List ℕ) (q : State) (since : List Stroke) (events : List Event) (p : Play State Refusal) (one : Feeding)
     : Type 0 where
-  refusals : p .refusals ≡ replicate (length events) Accepted
+  refusals : p .answers ≡ replicate (length events) Accepted
   mem : p .mem ≡ one .mem
   carried : p .carried ≡ one .answer .carried
   answered : p .answered ≡ one .answer .answered
@@ -282,22 +283,27 @@ module _ (g : Geometry) (u : Usable g) (font : List ℕ) (k back : ℕ) (v : Set
   refreshed-at : (after : List Event)
       → let p = play g font s m glass events in
       let r = refreshCall g (p .state) (p .mem) (p .glass) in
-      RefreshedAt g since p r (play g font (r .answer .state) (p .mem) (r .glass) after)
+      RefreshedAt g since p (r .answer .refusal) (r .answer .moved) (r .glass)
+      (play g font (r .answer .state) (p .mem) (r .glass) after)
       (play g font s m glass (events ++ refresh ∷ after))
   refreshed-at after =
       let p = play g font s m glass events in
       let size = begun .size in
       record {
         place = passes g font events (refresh ∷ after) s m glass;
-        glass =
+        only =
             rw next-refresh
             (record {
+              size = refreshed-length g (p .mem) since (p .glass);
               copied = λ n l held. refreshed-in g (p .mem) since (p .glass) n (omega arith) (covered-facts g since n (rw held tt));
               kept = λ n l out.
                   refreshed-out g (p .mem) since (p .glass) n (omega arith)
                   (λ c. not-both (covered g since n) out (covered-test g since n c));
             });
-        moved = ap (λ (r : Refreshing). r .answer .moved) next-refresh;
+        number =
+            ap (λ (r : Refreshing). r .answer .moved) next-refresh
+            ∙ sym (spanned-shown g since (since-count g font events s []));
+        sum = ap (λ (r : Refreshing). r .answer .moved) next-refresh;
       }
 
 module _ (g : Geometry) (u : Usable g) (font : List ℕ) (k back : ℕ) (v : Settings) (s : State) (m glass : List ℕ)
@@ -321,7 +327,7 @@ module _ (g : Geometry) (u : Usable g) (font : List ℕ) (k back : ℕ) (v : Set
             subst (Guest k back v s) (sym (a .state))
             (guest-spans k back v s _ since (feed-guest g u font k back v s m (joined events) (i .holding)));
         shows =
-            ap (λ (q : Play). q .glass) (passes g font events (refresh ∷ []) s m glass)
+            ap (λ (q : Play State Refusal). q .glass) (passes g font events (refresh ∷ []) s m glass)
             ∙ ap (λ (r : Refreshing). r .glass) (next-refresh g u font k back v s m glass i events)
             ∙ refreshed-shows g (p .mem) (p .glass) since (a .size) (a .synced) (glass-fits g u (p .mem) (a .memory));
         each = λ before after e. rw e (refreshed-at g u font k back v s m glass i before after);

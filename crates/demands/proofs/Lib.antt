@@ -3,6 +3,7 @@ pub mod Calls
 pub mod Outcomes
 pub mod Feeds
 pub mod Unseen
+pub mod Counts
 pub mod Events
 pub mod Begun
 pub mod Demands

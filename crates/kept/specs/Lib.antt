@@ -4,3 +4,4 @@ pub mod Parts
 pub mod Sized
 pub mod Guest
 pub mod Joined
+pub mod Runs

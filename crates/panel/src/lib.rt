@@ -1,5 +1,5 @@
 // The panel: document 01's five calls, and the loop over a piece. No call has a `requires`.
-// It may use accept for the state's test, carry for one byte, dots for the glass, windows for the initial state.
+// It may use accept for the state's test, turns for some bytes of a piece, dots for the glass, windows for the initial state.
 // Each call's contract is one line: what it answers and leaves is the paper's definition of that call.
 use paper::Answer;
 use paper::Fed;
@@ -17,9 +17,8 @@ ghost use mathlib.Core.List.{[]};
 ghost use Prim.Native.Nat.{_+_, _<_, _≤_};
 ghost use lib.ListN.{length};
 ghost use Rattle.paper.specs.Panel.{panel, fontLength};
-ghost use Rattle.paper.specs.Numbers.{carriedBy, answeredBy};
 ghost use Rattle.paper.specs.Settings.{windowAt, isDefined};
-ghost use Rattle.paper.specs.Calls.{answer, startCall, next, run, fedNothing, feedCall, heldBy, holdCall, putBack, releaseCall, refreshing, refreshCall};
+ghost use Rattle.paper.specs.Calls.{answer, startCall, run, fedNothing, feedCall, heldBy, holdCall, putBack, releaseCall, refreshing, refreshCall};
 ghost use Rattle.writes.specs.Does.{Ready};
 ghost use Rattle.panel.specs.Told.{started, fed, refreshed};
 
@@ -60,40 +59,6 @@ pub fn start(mem: &mut [u8]) -> Answer
 
 // ---- feed
 
-// What an outcome adds to the commands carried out.
-fn carried_by(o: Outcome) -> usize
-    ensures { λ n. ⌜ n ≡ carriedBy o ⌝ }
-{
-    match o {
-        Outcome::Unfinished => 0,
-        Outcome::Carried => 1,
-        Outcome::OutOfDomain => 0,
-        Outcome::Cancelled => 0,
-        Outcome::Unknown => 0,
-        Outcome::NotCarried => 0,
-        Outcome::WindowHeld => 0,
-        Outcome::TooLarge => 0,
-        Outcome::NotDefined => 0,
-    }
-}
-
-// What an outcome adds to the commands answered 11 to 17.
-fn answered_by(o: Outcome) -> usize
-    ensures { λ n. ⌜ n ≡ answeredBy o ⌝ }
-{
-    match o {
-        Outcome::Unfinished => 0,
-        Outcome::Carried => 0,
-        Outcome::OutOfDomain => 1,
-        Outcome::Cancelled => 1,
-        Outcome::Unknown => 1,
-        Outcome::NotCarried => 1,
-        Outcome::WindowHeld => 1,
-        Outcome::TooLarge => 1,
-        Outcome::NotDefined => 1,
-    }
-}
-
 // An answer that has fed nothing: a refusal, or the beginning of a piece.
 fn fed_nothing(refusal: Refusal, state: State) -> Fed
     ensures { λ r. ⌜ r ≡ fedNothing refusal state [] .answer ⌝ }
@@ -105,38 +70,6 @@ fn fed_nothing(refusal: Refusal, state: State) -> Fed
         answered: 0,
         outcome: Outcome::Unfinished,
     }
-}
-
-// One byte more: carried out, and counted.
-fn feed_byte(g: Geometry, mem: &mut [u8], font: &[u8], f: Fed, b: u8) -> Fed
-    requires { ⌜ Ready g (f .state) (now mem) × (length (now font) ≡ fontLength) ⌝ }
-    requires { ⌜ (f .carried + 1 < 18446744073709551616) × (f .answered + 1 < 18446744073709551616) ⌝ }
-    ensures { λ r. ⌜ fed r (now (mem .exit)) ≡ next g (now (font .entry)) (fed f (now (mem .entry))) b ⌝ }
-{
-    let before = f.state;
-    let d = carry::step(g, mem, font, before, b);
-    let state = d.state;
-    let outcome = d.outcome;
-    let refusal = f.refusal;
-    Fed {
-        refusal,
-        state,
-        carried: f.carried + carried_by(outcome),
-        answered: f.answered + answered_by(outcome),
-        outcome,
-    }
-}
-
-// The whole piece.
-fn feed_all(g: Geometry, mem: &mut [u8], font: &[u8], piece: &[u8], s: State) -> Fed
-    requires { ⌜ Ready g s (now mem) × (length (now font) ≡ fontLength) ⌝ }
-    ensures { λ r. ⌜ fed r (now (mem .exit)) ≡ run g (now (font .entry)) (fedNothing Refusal.Accepted s (now (mem .entry))) (now (piece .entry)) ⌝ }
-{
-    let mut f = fed_nothing(Refusal::Accepted, s);
-    for i in 0..piece.len() {
-        f = feed_byte(g, mem, font, f, piece[i]);
-    }
-    f
 }
 
 // The same state, what is saved in it taken apart and put together again: so the compiler sees fields that the loop over a piece
@@ -173,6 +106,21 @@ fn apart(s: State) -> State
     }
 }
 
+// The whole piece.
+fn feed_all(g: Geometry, mem: &mut [u8], font: &[u8], piece: &[u8], s: State) -> Fed
+    requires { ⌜ Ready g s (now mem) × (length (now font) ≡ fontLength) ⌝ }
+    ensures { λ r. ⌜ fed r (now (mem .exit)) ≡ run g (now (font .entry)) (fedNothing Refusal.Accepted s (now (mem .entry))) (now (piece .entry)) ⌝ }
+{
+    let mut f = fed_nothing(Refusal::Accepted, apart(s));
+    let mut i = 0;
+    while i < piece.len() {
+        let t = turns::feed_some(g, mem, font, piece, f, i);
+        f = t.fed;
+        i = t.at;
+    }
+    f
+}
+
 // A piece of the stream. 1: the memory is not 1,024 bytes; 2: the font is not 1,120; 8: the state breaks a bound.
 pub fn feed(mem: &mut [u8], font: &[u8], piece: &[u8], s: State) -> Fed
     ensures { λ r. ⌜ fed r (now (mem .exit)) ≡ feedCall panel (now (font .entry)) s (now (mem .entry)) (now (piece .entry)) ⌝ }
@@ -185,7 +133,7 @@ pub fn feed(mem: &mut [u8], font: &[u8], piece: &[u8], s: State) -> Fed
         return fed_nothing(Refusal::FontLength, s);
     }
     if accept::is_accepted(g, s) {
-        return feed_all(g, mem, font, piece, apart(s));
+        return feed_all(g, mem, font, piece, s);
     }
     fed_nothing(Refusal::BrokenState, s)
 }

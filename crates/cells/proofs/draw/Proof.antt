@@ -1,69 +1,31 @@
--- `cells::draw` meets its contract. The loop's invariant: the first j columns are mixed in, and the walk is at column j.
--- Assumes nothing.
-use mathlib.Core.Path.{_≡_, refl}
-use Prim.Native.Nat.{_≤_, _-_}
+-- `cells::draw` meets its contract, by its test. Assumes nothing.
+use Prim.Native.Nat.{_+_}
 use borrow.Author.Needs.{needs}
-use native.Mathlib.Omega.{arith}
-use lib.ListN.{length}
-use Rattle.paper.specs.Strokes.{rectMap}
-use Rattle.paper.specs.Cells.{cellDot}
-use Rattle.laws.specs.Bytes.{cellByte}
-use Rattle.laws.proofs.Drawn.{cell-byte}
-use Rattle.dots.proofs.Rects.{rect-none}
-use Rattle.cells.specs.Drawn.{drawn}
-use Rattle.cells.proofs.Columns.{inked, cell-turn, cell-end}
-use Rattle.cells.proofs.Walks.{Walked, walked-next, walked-row}
+use Rattle.cells.proofs.Stamps.{plain-facts}
 use Rattle.cells.proofs.draw.Statement.{statement}
 use Rattle.cells.proofs.draw.Tie as tie
 
-abbrev Inv-loop : tie.InvT-loop
-Inv-loop g mem₀ font code w style left top width height walk₀ j₀ mem walk j =
-    (j ≤ width) × (length mem ≡ length mem₀) × Walked font code w style top j walk
-    × (mem ≡ rectMap g left top j height (inked style (cellByte font code w style top)) mem₀)
+stamp-requires : tie.Need-stamp-requires
+stamp-requires c κs =
+    let a = c .before .before .before .before .before .before .args in
+    let plain = plain-facts (a .style) (a .height) (a .width) (a .w + 6) (c .before .if1 .taken) in
+    search needs
 
-abbrev μ-loop : tie.MeasureT-loop
-μ-loop g mem₀ font code w style left top width height walk₀ j₀ mem walk j = width - j
-
-loop-holds : tie.Need-loop-holds Inv-loop μ-loop
-loop-holds c = (
-  omega arith,
-  refl,
-  record { at-hand = c .column .ensures; counted = omega arith; short = omega arith; few = omega arith },
-  rect-none _ _ _ _ _ _ _ (λ a i. omega arith),
-)
-
-loop-again : tie.Need-loop-again Inv-loop μ-loop
-loop-again c =
-    let head = c .before .before .before .before .before .before .before .loop in
-    let walked = walked-next _ _ _ _ _ _ _ _ (omega arith) (head .inv .2) (c .before .before .before .before .before .next .ensures) in (
-      omega arith,
-      omega (arith, c .before .before .mix-column .kept .1 .0),
-      walked .0,
-      cell-turn _ _ _ _ _ _ _ _ _ _ _ (head .inv .3) (λ r h. walked-row _ _ _ _ _ _ _ (walked .0) (walked .1) r (omega arith))
-          (c .before .before .mix-column .ensures),
-    )
-
-returns : tie.Need-returns Inv-loop μ-loop
-unfolding drawn
+returns : tie.Need-returns
 returns c =
-    let head = c .before .loop in
-    cell-end _ _ (cellByte _ _ _ _ _) _ _ _ _ (cellDot _ _ _ _) _ _ _ (λ a. c .before .before .before .before .slice-known .given a .fits)
-    (λ j r h. cell-byte _ (λ n. c .before .before .before .shared-slice-known .given n .fits) _ _ _ _ j r (omega arith) (omega arith))
-    (head .inv .3) (head .inv .0) (c .loop-test .left)
+    let test = c .before .before .before .before in
+    let a = test .before .before .before .before .before .args in
+    let plain = plain-facts (a .style) (a .height) (a .width) (a .w + 6) (test .if1 .taken) in
+    rw (plain .2, plain .3) (c .before .before .stamp .ensures)
 
 pub draw-spec : {M : Type 1} → statement M
 draw-spec =
     tie.close
     (tie.spec
-    Inv-loop
-    μ-loop
+    (λ c. search needs)
+    stamp-requires
+    (λ c. search needs)
+    returns
     (λ c κs. search needs)
-    loop-holds
-    (λ c κs. omega arith)
-    (λ c. omega arith)
-    (λ c κs. omega arith)
-    (λ c. omega arith)
-    (λ c. omega arith)
-    loop-again
-    (λ c. omega arith)
-    returns)
+    (λ c. search needs)
+    (λ c. search needs))

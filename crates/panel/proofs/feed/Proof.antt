@@ -32,29 +32,26 @@ returns-2 c = let start = c .before .before .before .before .before .before .bef
 is-accepted-requires : tie.Need-is-accepted-requires
 is-accepted-requires c κs = search needs
 
-apart-requires : tie.Need-apart-requires
-apart-requires c κs = search needs
-
 feed-all-requires : tie.Need-feed-all-requires
 unfolding panel
-feed-all-requires c κs = rw (c .before .before .before .before .before .before .module-size .ensures, c .apart .ensures) (
+feed-all-requires c κs = rw (c .before .before .before .before .before .module-size .ensures) (
   record {
     usable = panel-usable;
     two-rows = refl;
-    state-ok = sym (rw (c .before .before .before .before .before .before .module-size .ensures) at (c .before .before .before .is-accepted .ensures)) ∙ c .before .before .if3 .taken;
-    fits = record { size = c .before .before .before .before .before .if1 .left; small = omega arith };
+    state-ok = sym (rw (c .before .before .before .before .before .module-size .ensures) at (c .before .before .is-accepted .ensures)) ∙ c .before .if3 .taken;
+    fits = record { size = c .before .before .before .before .if1 .left; small = omega arith };
   },
-  c .before .before .before .before .if2 .left,
+  c .before .before .before .if2 .left,
 )
 
 same-length : tie.Need-same-length
 same-length c = search needs
 
 returns-3 : tie.Need-returns-3
-returns-3 c = let start = c .before .before .before .before .before .before .before .before .before .before .before .before .before in
-    let g = c .before .before .before .before .before .before .before .before .before .module-size .ensures in
-    (rw (g, c .before .before .before .apart .ensures) at (c .before .before .feed-all .ensures))
-    ∙ feed-accepted (start .args .font .now) (start .args .s) (start .args .mem .now) (start .args .piece .now) (c .before .before .before .before .before .before .before .before .if1 .left) (c .before .before .before .before .before .before .before .if2 .left) (sym (rw g at (c .before .before .before .before .before .before .is-accepted .ensures)) ∙ c .before .before .before .before .before .if3 .taken)
+returns-3 c = let start = c .before .before .before .before .before .before .before .before .before .before .before .before in
+    let g = c .before .before .before .before .before .before .before .before .module-size .ensures in
+    (rw g at (c .before .before .feed-all .ensures))
+    ∙ feed-accepted (start .args .font .now) (start .args .s) (start .args .mem .now) (start .args .piece .now) (c .before .before .before .before .before .before .before .if1 .left) (c .before .before .before .before .before .before .if2 .left) (sym (rw g at (c .before .before .before .before .before .is-accepted .ensures)) ∙ c .before .before .before .before .if3 .taken)
 
 fed-nothing-requires-3 : tie.Need-fed-nothing-requires-3
 fed-nothing-requires-3 c κs = search needs
@@ -75,7 +72,6 @@ feed-spec =
     fed-nothing-requires-2
     returns-2
     is-accepted-requires
-    apart-requires
     feed-all-requires
     same-length
     returns-3

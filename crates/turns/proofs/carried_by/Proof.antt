@@ -1,8 +1,8 @@
--- `panel::carried_by` meets its contract: an arm for each outcome. Assumes nothing.
+-- `turns::carried_by` meets its contract: an arm for each outcome. Assumes nothing.
 use borrow.Author.Needs.{needs}
 use Rattle.paper.specs.Numbers.{carriedBy}
-use Rattle.panel.proofs.carried_by.Statement.{statement}
-use Rattle.panel.proofs.carried_by.Tie as tie
+use Rattle.turns.proofs.carried_by.Statement.{statement}
+use Rattle.turns.proofs.carried_by.Tie as tie
 
 enum-told : tie.Need-enum-told
 enum-told c = search needs

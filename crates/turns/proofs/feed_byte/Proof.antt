@@ -1,10 +1,10 @@
--- `panel::feed_byte` meets its contract. Assumes nothing.
+-- `turns::feed_byte` meets its contract. Assumes nothing.
 use borrow.Author.Needs.{needs}
 use native.Mathlib.Omega.{arith}
 use Rattle.paper.specs.Calls.{next}
-use Rattle.panel.proofs.Pieces.{carried-one, answered-one, counted-by}
-use Rattle.panel.proofs.feed_byte.Statement.{statement}
-use Rattle.panel.proofs.feed_byte.Tie as tie
+use Rattle.turns.proofs.Counts.{carried-one, answered-one, counted-by}
+use Rattle.turns.proofs.feed_byte.Statement.{statement}
+use Rattle.turns.proofs.feed_byte.Tie as tie
 
 step-requires : tie.Need-step-requires
 step-requires c κs = search needs

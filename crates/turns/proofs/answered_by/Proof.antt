@@ -1,8 +1,8 @@
--- `panel::answered_by` meets its contract: an arm for each outcome. Assumes nothing.
+-- `turns::answered_by` meets its contract: an arm for each outcome. Assumes nothing.
 use borrow.Author.Needs.{needs}
 use Rattle.paper.specs.Numbers.{answeredBy}
-use Rattle.panel.proofs.answered_by.Statement.{statement}
-use Rattle.panel.proofs.answered_by.Tie as tie
+use Rattle.turns.proofs.answered_by.Statement.{statement}
+use Rattle.turns.proofs.answered_by.Tie as tie
 
 enum-told : tie.Need-enum-told
 enum-told c = search needs

@@ -1,0 +1,154 @@
+-- A turn of the loop over a piece: what a run came to is what feeding its bytes one by one comes to. Assumes nothing.
+use mathlib.Core.Path.{_≡_, refl, sym, ap, _∙_}
+use mathlib.Core.Bool.{Bool, true, false, cond}
+use mathlib.Core.List.{List, [], _∷_}
+use Prim.Native.Nat.{ℕ, _+_, _-_, _<_, _≤_}
+use native.Mathlib.Nat.{add-zero}
+use native.Mathlib.Omega.{arith}
+use lib.ListN.{length, getD, drop, length-drop}
+use lib.Dec.{leb, ltb, eqb}
+use borrow.Author.Tests.{le-leb, ltb-true}
+use Rattle.paper.specs.declared.Geometry.{Geometry}
+use Rattle.paper.specs.declared.Fed.{Fed}
+use Rattle.paper.specs.declared.Half.{Half}
+use Rattle.paper.specs.declared.Half.the-variants.{Nothing, ImageData}
+use Rattle.paper.specs.declared.Outcome.{Outcome}
+use Rattle.paper.specs.declared.Outcome.the-variants.{Unfinished, Carried}
+use Rattle.paper.specs.declared.Refusal.{Refusal}
+use Rattle.paper.specs.declared.State.{State}
+use Rattle.paper.specs.declared.View.{View}
+use Rattle.paper.specs.Bounds.{halfOk, accepted}
+use Rattle.paper.specs.Reading.{between}
+use Rattle.laws.proofs.Tests.{both-of}
+use Rattle.commands.proofs.Facts.{selected-small}
+use Rattle.kept.proofs.Parts.{parts}
+use Rattle.paper.specs.Settings.{withHalf, withSpans, withView, viewOf}
+use Rattle.paper.specs.Calls.{Feeding, feeding, next}
+use Rattle.kept.specs.Room.{Usable}
+use Rattle.kept.specs.Runs.{Reaches, here, Sheet, sheet, Written, written, charactersOf, onSheet, Within, Image, image, Stored, stored, picturesOf, outcomeAt, doneAt, onImage}
+use Rattle.kept.proofs.Views.{view-place}
+use Rattle.kept.proofs.Sheets.{view-same}
+use Rattle.kept.proofs.Reached.{reaches-next}
+use Rattle.kept.proofs.Runs.{penned, penned-within, character-next, characters-reached, pictures-reached}
+use Rattle.kept.proofs.Taken.{from-here}
+use Rattle.turns.specs.Turns.{fed}
+use Rattle.turns.specs.Turns.{Drawable}
+
+-- one byte
+pub byte-turn : (g : Geometry) (font : List ℕ) (x y : Feeding) (piece : List ℕ) (i : ℕ) → i < length piece → y ≡ next g font x (getD piece i 0)
+    → Reaches g font x (drop i piece) y (drop (i + 1) piece)
+byte-turn g font x y piece i l e = rw (from-here piece i l, e) (reaches-next (getD piece i 0) refl here)
+
+-- ---- characters
+
+module _ (g : Geometry) (font : List ℕ) (u : Usable g) (f : Fed) (m piece : List ℕ) (i : ℕ) where
+  -- the sheet of a state
+  abbrev pub begun : Sheet
+  begun = sheet (viewOf g (f .state)) (f .state .spans) m
+
+  -- it is the state's
+  begun-same : onSheet (f .state) begun ≡ f .state
+  begun-same = ap (λ (q : State). withSpans q (f .state .spans)) (view-same g (f .state))
+
+  begun-within : accepted g (f .state) ≡ true → Within (viewOf g (f .state)) (viewOf g (f .state))
+  begun-within ok =
+      let p = view-place g u (f .state) ok in
+      record { left = refl; top = refl; width = refl; height = refl; x = p .x; y = p .y }
+
+  -- a run of characters from there on
+  pub characters-turn : (h : Sheet) (at : ℕ) → accepted g (f .state) ≡ true → Drawable g (f .state) (getD piece i 0) → i < length piece
+      → i < at → at ≤ length piece
+      → written h (drop at piece) ≡ charactersOf g font (f .state .settings .width) (f .state .settings .style) begun (drop i piece)
+      → Reaches g font (fed f m) (drop i piece)
+      (feeding (f .refusal) (onSheet (f .state) h) (f .carried + (at - i)) (f .answered) Carried (h .mem)) (drop at piece)
+  characters-turn h at ok d l some end e = rw (from-here piece i l) (reaches-next b first (rw (← same) at rest)) where
+    s : State
+    s = f .state
+
+    b : ℕ
+    b = getD piece i 0
+
+    one : Sheet
+    one = penned g font u s ok (d .free) (d .room) (f .refusal) (f .answered) begun b
+
+    same : written h (drop at piece) ≡ charactersOf g font (s .settings .width) (s .settings .style) one (drop (i + 1) piece)
+    same = e ∙ rw (from-here piece i l, le-leb 0x20 b (d .has))
+
+    first : next g font (fed f m) b ≡ feeding (f .refusal) (onSheet s one) (f .carried + 1) (f .answered) Carried (one .mem)
+    first =
+        sym (ap (λ (q : State). next g font (feeding (f .refusal) q (f .carried) (f .answered) (f .outcome) m) b) begun-same)
+        ∙ character-next g font u s ok (d .free) (d .room) (f .refusal) (f .answered) begun (f .carried) (f .outcome) b (begun-within ok) (le-leb 0x20 b (d .has))
+
+    lengths : f .carried + (at - i) + length (drop at piece) ≡ (f .carried + 1) + length (drop (i + 1) piece)
+    lengths = omega (arith, length-drop at piece, length-drop (i + 1) piece)
+
+    rest : let t = charactersOf g font (s .settings .width) (s .settings .style) one (drop (i + 1) piece) in
+        Reaches g font (feeding (f .refusal) (onSheet s one) (f .carried + 1) (f .answered) Carried (one .mem)) (drop (i + 1) piece)
+        (feeding (f .refusal) (onSheet s (t .on)) (f .carried + (at - i)) (f .answered) Carried (t .on .mem)) (t .rest)
+    rest =
+        characters-reached g font u s ok (d .free) (d .room) (f .refusal) (f .answered) (drop (i + 1) piece) one (f .carried + 1) (f .carried + (at - i))
+        (penned-within g font u s ok (d .free) (d .room) (f .refusal) (f .answered) begun b (begun-within ok))
+        (ap (λ (t : Written). f .carried + (at - i) + length (t .rest)) (sym same) ∙ lengths)
+
+-- ---- an image's bytes
+
+module _ (g : Geometry) (font : List ℕ) (f : Fed) (m piece : List ℕ) (i width height column row : ℕ) where
+  -- a run of an image's bytes from there on
+  pictures-turn : (j : Image) (at : ℕ) → f .state .half ≡ ImageData width height column row → column < width → i < length piece
+      → stored j (drop at piece)
+      ≡ picturesOf g (viewOf g (f .state)) (f .state .settings .style) width height (image (f .state .spans) m column row) (drop i piece)
+      → Reaches g font (fed f m) (drop i piece)
+      (feeding (f .refusal) (onImage (f .state) width height j) (f .carried + doneAt width j) (f .answered) (outcomeAt width j) (j .mem)) (drop at piece)
+  pictures-turn j at e c l k = rw (from-here piece i l) (rw (← same) at (rw starts at rest)) where
+    begun-here : Image
+    begun-here = image (f .state .spans) m column row
+
+    starts : withHalf (f .state) (ImageData width height column row) ≡ f .state
+    starts = ap (λ (q : Half). withHalf (f .state) q) (sym e)
+
+    same : stored j (drop at piece)
+        ≡ picturesOf g (viewOf g (f .state)) (f .state .settings .style) width height begun-here (getD piece i 0 ∷ drop (i + 1) piece)
+    same = rw (from-here piece i l) at k
+
+    rest : let t = picturesOf g (viewOf g (f .state)) (f .state .settings .style) width height begun-here (getD piece i 0 ∷ drop (i + 1) piece) in
+        Reaches g font (feeding (f .refusal) (withHalf (f .state) (ImageData width height column row)) (f .carried) (f .answered) (f .outcome) m) (getD piece i 0 ∷ drop (i + 1) piece)
+        (feeding (f .refusal) (onImage (f .state) width height (t .on)) (f .carried + doneAt width (t .on)) (f .answered) (outcomeAt width (t .on)) (t .on .mem)) (t .rest)
+    rest = pictures-reached g font (f .state) (f .refusal) (f .answered) width height (f .outcome) (getD piece i 0) (drop (i + 1) piece) begun-here (f .carried) c
+
+  -- the image is whole
+  pub pictures-whole-turn : (j : Image) (at : ℕ) → f .state .half ≡ ImageData width height column row → column < width → i < length piece
+      → stored j (drop at piece)
+      ≡ picturesOf g (viewOf g (f .state)) (f .state .settings .style) width height (image (f .state .spans) m column row) (drop i piece)
+      → eqb (j .column) width ≡ true
+      → Reaches g font (fed f m) (drop i piece)
+      (feeding (f .refusal) (withHalf (withSpans (f .state) (j .spans)) Nothing) (f .carried + 1) (f .answered) Carried (j .mem)) (drop at piece)
+  pictures-whole-turn j at e c l k z = rw z at (pictures-turn j at e c l k)
+
+  -- the image goes on
+  pub pictures-part-turn : (j : Image) (at : ℕ) → f .state .half ≡ ImageData width height column row → column < width → i < length piece
+      → stored j (drop at piece)
+      ≡ picturesOf g (viewOf g (f .state)) (f .state .settings .style) width height (image (f .state .spans) m column row) (drop i piece)
+      → eqb (j .column) width ≡ false
+      → Reaches g font (fed f m) (drop i piece)
+      (feeding (f .refusal) (withHalf (withSpans (f .state) (j .spans)) (ImageData width height (j .column) (j .row))) (f .carried) (f .answered) Unfinished (j .mem)) (drop at piece)
+  pictures-part-turn j at e c l k z = rw (z, add-zero (f .carried)) at (pictures-turn j at e c l k)
+
+-- ---- what the runs ask
+
+-- what `settle` asks of a cursor in the range
+pub settles-within : (g : Geometry) (s : State) (v : View) → Usable g → accepted g s ≡ true → Within (viewOf g s) v
+    → (s .selected ≤ 4) × (v .left + v .x < 65536) × (v .top + v .y < 65536)
+settles-within g s v u ok i =
+    let p = view-place g u s ok in
+    (selected-small g s ok, omega arith, omega arith)
+
+-- the next byte's place is one of the image's
+pub image-bounds : (g : Geometry) (s : State) (width height column row : ℕ) → accepted g s ≡ true → s .half ≡ ImageData width height column row
+    → (column < width) × (row < height)
+unfolding halfOk
+image-bounds g s width height column row ok e =
+    let h : halfOk g (ImageData width height column row) ≡ true = rw e at (parts g s ok .half) in
+    let a = both-of (between 1 (g .columns) width) _ h in
+    let b = both-of (between 1 (g .rows) height) _ (a .1) in
+    let c = both-of (ltb column width) (ltb row height) (b .1) in
+    (ltb-true column width (c .0), ltb-true row height (c .1))

@@ -1,0 +1,39 @@
+-- What a turn of the loop over a piece owes. Assumes nothing.
+use mathlib.Core.Path.{_≡_}
+use mathlib.Core.Bool.{true, false}
+use mathlib.Core.List.{List}
+use Prim.Native.Nat.{ℕ, _+_, _-_, _<_, _≤_}
+use lib.ListN.{length, drop}
+use Rattle.paper.specs.declared.Geometry.{Geometry}
+use Rattle.paper.specs.declared.Fed.{Fed}
+use Rattle.paper.specs.declared.Half.the-variants.{Nothing}
+use Rattle.paper.specs.declared.State.{State}
+use Rattle.paper.specs.Panel.{fontLength}
+use Rattle.paper.specs.Carry.{exceeds}
+use Rattle.kept.specs.Runs.{Reaches}
+use Rattle.writes.specs.Does.{Ready}
+use Rattle.turns.specs.declared.Turn.{Turn}
+use Rattle.paper.specs.Calls.{Feeding}
+
+-- an answer and the memory
+abbrev pub fed : Fed → List ℕ → Feeding
+fed a m = record { answer = a; mem = m }
+
+-- a byte that is a character, while nothing is half read and a cell has room
+pub record Drawable (g : Geometry) (s : State) (b : ℕ) : Type 0 where
+  pub free : s .half ≡ Nothing
+  pub has : 0x20 ≤ b
+  pub room : exceeds g s ≡ false
+
+-- a byte of the piece is next, and all that are left can be counted
+pub record Due (g : Geometry) (m font piece : List ℕ) (f : Fed) (i : ℕ) : Type 0 where
+  pub ready : Ready g (f .state) m
+  pub font-whole : length font ≡ fontLength
+  pub inside : i < length piece
+  pub countable : f .carried + f .answered + (length piece - i) < 18446744073709551616
+
+-- some bytes more are fed, as they are one by one
+pub record Turned (g : Geometry) (font : List ℕ) (f : Fed) (m piece : List ℕ) (i : ℕ) (r : Turn) (m′ : List ℕ) : Type 0 where
+  pub some : i < r .at
+  pub end : r .at ≤ length piece
+  pub reached : Reaches g font (fed f m) (drop i piece) (fed (r .fed) m′) (drop (r .at) piece)
