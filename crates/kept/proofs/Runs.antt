@@ -26,7 +26,7 @@ use Rattle.paper.specs.Settings.{withHalf, withSpans, withView, cursorIn, viewO
 use Rattle.paper.specs.Bounds.{accepted}
 use Rattle.paper.specs.Cells.{cellWidth, cellHeight}
 use Rattle.paper.specs.Moves.{Moved, characterOf}
-use Rattle.paper.specs.Carry.{Meaning, means, notCarried, ownersOnly, outOfDomain, notDefined, cellExceeds, exceeds, moves, carriedOut, commandOf, imageStrokes, takeOf, byteMeans}
+use Rattle.paper.specs.Carry.{Meaning, means, asks, exceeds, moves, carriedOut, commandOf, imageStrokes, takeOf, byteMeans}
 use Rattle.paper.specs.Calls.{Feeding, feeding, settled, counted, next}
 use Rattle.kept.specs.Room.{Usable, Room, Kept}
 use Rattle.kept.specs.Runs.{Reaches, here, Sheet, movedOn, writtenOn, Written, written, charactersOf, onSheet, Within, Image, storedOn, Stored, stored, picturesOf, halfAt, outcomeAt, doneAt, onImage}
@@ -59,7 +59,7 @@ module _ (g : Geometry) (font : List ℕ) where
   -- a character that comes while nothing is half read and a cell has room
   pub character-means : (s : State) (b : ℕ) → s .half ≡ Nothing → leb 0x20 b ≡ true → exceeds g s ≡ false
       → byteMeans g font s b ≡ moves s (characterOf g font (s .settings .width) (s .settings .style) b (viewOf g s))
-  unfolding byteMeans readOf readFirst takeOf commandOf notCarried ownersOnly outOfDomain notDefined cellExceeds carriedOut
+  unfolding byteMeans readOf readFirst takeOf commandOf asks carriedOut
   character-means s b n l e = first ∙ second ∙ third where
     first : takeOf g font s (readOf g (s .half) b) ≡ commandOf g font (withHalf s Nothing) (Character b)
     first = ap (λ (p : Half). takeOf g font s (readOf g p b)) n ∙ rw l
