@@ -13,22 +13,10 @@ use Rattle.paper.specs.Bounds.{accepted}
 use Rattle.paper.specs.Numbers.{carriedBy, answeredBy}
 use Rattle.paper.specs.Carry.{byteMeans}
 use Rattle.paper.specs.Calls.{Feeding, next, run}
+use Rattle.laws.proofs.Counts.{one-at-most}
 use Rattle.kept.specs.Room.{Usable}
 use Rattle.kept.specs.Runs.{Reaches, here, byte}
 use Rattle.kept.proofs.Accepted.{accepted-kept}
-
--- a byte finishes at most one command
-pub one-at-most : (o : Outcome) → carriedBy o + answeredBy o ≤ 1
-unfolding carriedBy answeredBy
-one-at-most Unfinished = omega arith
-one-at-most Carried = omega arith
-one-at-most OutOfDomain = omega arith
-one-at-most Cancelled = omega arith
-one-at-most Unknown = omega arith
-one-at-most NotCarried = omega arith
-one-at-most WindowHeld = omega arith
-one-at-most TooLarge = omega arith
-one-at-most NotDefined = omega arith
 
 module _ {g : Geometry} {font : List ℕ} where
   -- a byte, and from what it comes to

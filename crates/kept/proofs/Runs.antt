@@ -20,7 +20,7 @@ use Rattle.paper.specs.declared.State.{State}
 use Rattle.paper.specs.declared.Style.{Style}
 use Rattle.paper.specs.declared.View.{View}
 use Rattle.paper.specs.Strokes.{applyAll, markAll}
-use Rattle.paper.specs.Numbers.{carriedBy, answeredBy}
+use Rattle.paper.specs.Numbers.{outcomeNumber, carriedBy, answeredBy}
 use Rattle.paper.specs.Reading.{readFirst, readImage, readOf}
 use Rattle.paper.specs.Settings.{withHalf, withSpans, withView, cursorIn, viewOf}
 use Rattle.paper.specs.Bounds.{accepted}
@@ -93,7 +93,7 @@ module _ (g : Geometry) (font : List ℕ) where
     pub character-next : (h : Sheet) (c : ℕ) (o : Outcome) (b : ℕ) → Within (viewOf g s) (h .view) → leb 0x20 b ≡ true
         → next g font (feeding r (onSheet s h) c a o (h .mem)) b
         ≡ feeding r (onSheet s (penned h b)) (c + 1) a Carried (penned h b .mem)
-    unfolding next carriedBy answeredBy
+    unfolding next outcomeNumber carriedBy answeredBy
     character-next h c o b i l =
         ap (counted g (feeding r (onSheet s h) c a o (h .mem))) meaning
         ∙ ap (λ (q : State). feeding r q (c + 1) (a + 0) Carried (penned h b .mem)) (settled-on s h (characterOf g font (s .settings .width) (s .settings .style) b (h .view)))
@@ -153,7 +153,7 @@ module _ (g : Geometry) (font : List ℕ) (s : State) (r : Refusal) (a width hei
   pub picture-next : (i : Image) (c : ℕ) (o : Outcome) (b : ℕ) → i .column < width
       → next g font (feeding r (awaiting i) c a o (i .mem)) b
       ≡ feeding r (onImage s width height (imaged i b)) (c + doneAt width (imaged i b)) a (outcomeAt width (imaged i b)) (imaged i b .mem)
-  unfolding next byteMeans readOf readImage takeOf viewOf carriedBy answeredBy
+  unfolding next byteMeans readOf readImage takeOf viewOf outcomeNumber carriedBy answeredBy
   picture-next i c o b l =
       go (ltb (i .row + 1) height) refl (ltb (i .column + 1) width) refl
       ∙ ap (λ (n : ℕ). feeding r (onImage s width height (imaged i b)) (c + doneAt width (imaged i b)) n (outcomeAt width (imaged i b)) (imaged i b .mem)) (add-zero a)

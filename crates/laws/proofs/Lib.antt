@@ -7,3 +7,4 @@ pub mod Tests
 pub mod Readings
 pub mod Beginnings
 pub mod Endings
+pub mod Counts

@@ -11,44 +11,9 @@ ghost use mathlib.Core.Bool.{true};
 ghost use Prim.Native.Nat.{_+_, _<_, _≤_};
 ghost use lib.ListN.{length, getD};
 ghost use Rattle.paper.specs.Panel.{fontLength};
-ghost use Rattle.paper.specs.Numbers.{carriedBy, answeredBy};
 ghost use Rattle.paper.specs.Calls.{next};
 ghost use Rattle.writes.specs.Does.{Ready};
 ghost use Rattle.turns.specs.Turns.{fed, Drawable, Due, Turned};
-
-// What an outcome adds to the commands carried out.
-fn carried_by(o: Outcome) -> usize
-    ensures { λ n. ⌜ n ≡ carriedBy o ⌝ }
-{
-    match o {
-        Outcome::Unfinished => 0,
-        Outcome::Carried => 1,
-        Outcome::OutOfDomain => 0,
-        Outcome::Cancelled => 0,
-        Outcome::Unknown => 0,
-        Outcome::NotCarried => 0,
-        Outcome::WindowHeld => 0,
-        Outcome::TooLarge => 0,
-        Outcome::NotDefined => 0,
-    }
-}
-
-// What an outcome adds to the commands answered 11 to 17.
-fn answered_by(o: Outcome) -> usize
-    ensures { λ n. ⌜ n ≡ answeredBy o ⌝ }
-{
-    match o {
-        Outcome::Unfinished => 0,
-        Outcome::Carried => 0,
-        Outcome::OutOfDomain => 1,
-        Outcome::Cancelled => 1,
-        Outcome::Unknown => 1,
-        Outcome::NotCarried => 1,
-        Outcome::WindowHeld => 1,
-        Outcome::TooLarge => 1,
-        Outcome::NotDefined => 1,
-    }
-}
 
 // One byte more: carried out, and counted.
 fn feed_byte(g: Geometry, mem: &mut [u8], font: &[u8], f: Fed, b: u8) -> Fed
@@ -64,8 +29,8 @@ fn feed_byte(g: Geometry, mem: &mut [u8], font: &[u8], f: Fed, b: u8) -> Fed
     Fed {
         refusal,
         state,
-        carried: f.carried + carried_by(outcome),
-        answered: f.answered + answered_by(outcome),
+        carried: f.carried + numbers::carried_by(outcome),
+        answered: f.answered + numbers::answered_by(outcome),
         outcome,
     }
 }

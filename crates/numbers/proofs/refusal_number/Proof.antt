@@ -1,7 +1,7 @@
 -- `refusal_number` meets its contract: an arm for each refusal. Assumes nothing.
 use Rattle.paper.specs.Numbers.{refusalNumber}
-use Rattle.panel_c.proofs.refusal_number.Statement.{statement}
-use Rattle.panel_c.proofs.refusal_number.Tie as tie
+use Rattle.numbers.proofs.refusal_number.Statement.{statement}
+use Rattle.numbers.proofs.refusal_number.Tie as tie
 
 pub refusal-number-spec : {M : Type 1} → statement M
 unfolding refusalNumber

@@ -1,7 +1,7 @@
 -- `outcome_number` meets its contract: an arm for each outcome. Assumes nothing.
 use Rattle.paper.specs.Numbers.{outcomeNumber}
-use Rattle.panel_c.proofs.outcome_number.Statement.{statement}
-use Rattle.panel_c.proofs.outcome_number.Tie as tie
+use Rattle.numbers.proofs.outcome_number.Statement.{statement}
+use Rattle.numbers.proofs.outcome_number.Tie as tie
 
 pub outcome-number-spec : {M : Type 1} → statement M
 unfolding outcomeNumber
