@@ -53,7 +53,7 @@ pub data OutOfDomain (v : Settings) : Type 0 where
   -- 1Fh 28h 77h: "10h a (0, 1) write mode"
   write : 1 < v .write → OutOfDomain v
 
--- row y's span, and its last column: the record has the column after it
+-- row y's span, which is nothing if it is `noSpan`, 0 and 0; and its last column: the record has the column after it
 abbrev pub span : State → ℕ → Span
 span s y = getD (s .spans) y noSpan
 
