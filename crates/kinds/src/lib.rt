@@ -1,9 +1,8 @@
 // What a technician reads of a command: its kind, by its first bytes as document 01 lists them under "How bytes are read", and
-// the number and words of its outcome. Names are of one width, filled up with blanks. It uses the paper alone.
+// its outcome's number in words. Names are of one width, filled up with blanks. It uses nothing.
 mod groups;
 mod outcomes;
 
-pub use outcomes::outcome_number;
 pub use outcomes::outcome_words;
 
 // Byte i of a command; 0, which continues none, where it has not come.

@@ -1,27 +1,7 @@
-// The numbers of outcomes, and each in words.
-use paper::Outcome;
-ghost use mathlib.Core.Path.{_≡_};
-ghost use Rattle.paper.specs.Numbers.{outcomeNumber};
-
-// The number of an outcome, 9 to 17.
-pub fn outcome_number(o: Outcome) -> u64
-    ensures { λ r. ⌜ r ≡ outcomeNumber o ⌝ }
-{
-    match o {
-        Outcome::Unfinished => 9,
-        Outcome::Carried => 10,
-        Outcome::OutOfDomain => 11,
-        Outcome::Cancelled => 12,
-        Outcome::Unknown => 13,
-        Outcome::NotCarried => 14,
-        Outcome::WindowHeld => 15,
-        Outcome::TooLarge => 16,
-        Outcome::NotDefined => 17,
-    }
-}
+// Each outcome in words, by its number.
 
 // What an outcome's number says.
-pub fn outcome_words(n: u64) -> [u8; 18] {
+pub fn outcome_words(n: u32) -> [u8; 18] {
     match n {
         9 => *b"not finished      ",
         10 => *b"carried out       ",

@@ -27,9 +27,9 @@ fn put_bytes(out: &mut [u8], at: usize, command: &[u8]) -> usize {
 
 // The number of an outcome and its words.
 fn put_outcome(out: &mut [u8], at: usize, o: Outcome) -> usize {
-    let n = kinds::outcome_number(o);
+    let n = numbers::outcome_number(o);
     let words = kinds::outcome_words(n);
-    let at = view_text::decimal(out, at, n);
+    let at = view_text::decimal(out, at, n as u64);
     let at = view_text::put(out, at, b' ');
     view_text::text(out, at, &words)
 }

@@ -14,7 +14,7 @@ fn write_line(place: usize, command: &[u8], o: Outcome, s: State) {
 
 // Writes the line of the command from `from` to before `next`, if its last byte finished it, and answers where the next begins.
 fn tell(stream: &[u8], from: usize, next: usize, o: Outcome, s: State) -> usize {
-    if kinds::outcome_number(o) == 9 {
+    if numbers::outcome_number(o) == 9 {
         return from;
     }
     write_line(from, view_text::part(stream, from, next), o, s);
