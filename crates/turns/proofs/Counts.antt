@@ -9,9 +9,9 @@ use Rattle.paper.specs.declared.Outcome.{Outcome}
 use Rattle.paper.specs.Numbers.{carriedBy, answeredBy}
 use Rattle.paper.specs.Carry.{Meaning}
 use Rattle.paper.specs.Calls.{feeding, counted}
-use Rattle.laws.proofs.Counts.{one-at-most}
-use Rattle.commands.specs.declared.Done.{Done}
-use Rattle.writes.specs.Does.{Does}
+use Rattle.laws_bytes.proofs.Counts.{one-at-most}
+use Rattle.carry_state.specs.declared.Done.{Done}
+use Rattle.carry_dots.specs.Does.{Does}
 use Rattle.turns.specs.Turns.{fed}
 
 -- a byte adds at most one to either count

@@ -12,7 +12,7 @@ ghost use Prim.Native.Nat.{_+_, _<_, _≤_};
 ghost use lib.ListN.{length, getD};
 ghost use Rattle.paper.specs.Panel.{fontLength};
 ghost use Rattle.paper.specs.Calls.{next};
-ghost use Rattle.writes.specs.Does.{Ready};
+ghost use Rattle.carry_dots.specs.Does.{Ready};
 ghost use Rattle.turns.specs.Turns.{fed, Drawable, Due, Turned};
 
 // One byte more: carried out, and counted.
@@ -61,10 +61,10 @@ fn is_drawn(g: Geometry, s: State, b: u8) -> bool
         return false;
     }
     if is_nothing(half) {
-        let p = writes::pen_of(g, s);
+        let p = carry_dots::pen_of(g, s);
         let v = s.settings;
         let style = v.style;
-        return !commands::is_too_large(p.view, v.width, style);
+        return !carry_state::is_too_large(p.view, v.width, style);
     }
     false
 }
@@ -75,13 +75,13 @@ fn feed_characters(g: Geometry, mem: &mut [u8], font: &[u8], piece: &[u8], f: Fe
     ensures { λ r. ⌜ Turned g (now (font .entry)) f (now (mem .entry)) (now (piece .entry)) i r (now (mem .exit)) ⌝ }
 {
     let s = f.state;
-    let p = writes::pen_of(g, s);
+    let p = carry_dots::pen_of(g, s);
     let v = s.settings;
     let style = v.style;
-    let r = writes::run(g, mem, font, p, v.width, style, piece, i);
+    let r = carry_dots::run(g, mem, font, p, v.width, style, piece, i);
     let at = r.at;
     let q = r.pen;
-    let state = writes::settle(s, q);
+    let state = carry_dots::settle(s, q);
     let refusal = f.refusal;
     let fed = Fed {
         refusal,
@@ -110,11 +110,11 @@ fn feed_pictures(
     ensures { λ r. ⌜ Turned g (now (font .entry)) f (now (mem .entry)) (now (piece .entry)) i r (now (mem .exit)) ⌝ }
 {
     let s = f.state;
-    let p = writes::pen_of(g, s);
+    let p = carry_dots::pen_of(g, s);
     let v = s.settings;
     let refusal = f.refusal;
     let style = v.style;
-    let r = writes::pictures(g, mem, p, style, width, height, column, row, piece, i);
+    let r = carry_dots::pictures(g, mem, p, style, width, height, column, row, piece, i);
     let at = r.at;
     let spans = r.spans;
     if r.column == width {
