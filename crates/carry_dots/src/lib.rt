@@ -2,7 +2,7 @@
 // It may use commands for the answer's form, windows for the state, and moves, text, cells and dots for what is written.
 // Each contract says that what was done is what the paper's meaning says.
 use carry_state::Done;
-use moves::Pen;
+use moves::Spot;
 use paper::Command;
 use paper::Geometry;
 use paper::Outcome;
@@ -17,27 +17,27 @@ ghost use Rattle.paper.specs.Panel.{fontLength};
 ghost use Rattle.paper.specs.Cells.{cellWidth, cellHeight};
 ghost use Rattle.paper.specs.Settings.{withView, withSpans, viewOf};
 ghost use Rattle.paper.specs.Carry.{isHeld, commandOf};
-ghost use Rattle.moves.specs.Does.{pen};
+ghost use Rattle.moves.specs.Does.{spot};
 ghost use Rattle.laws_memory.specs.Rectangles.{Fits};
 ghost use Rattle.laws_state.specs.Room.{Usable, InMemory, Room};
 ghost use Rattle.text.specs.Inked.{Inked};
-ghost use Rattle.carry_dots.specs.Does.{Ready, Does, Pictured};
+ghost use Rattle.carry_dots.specs.Does.{Ready, Does, ImageStored};
 ghost use Rattle.carry_dots.specs.Runs.{Ran, placeAfter, filled, Stocked};
 
 // ---- moves of the current window that write
 
 // The current window's range and cursor, and the spans.
-pub fn pen_of(g: Geometry, s: State) -> Pen
+pub fn spot_of(g: Geometry, s: State) -> Spot
     requires { ⌜ (s .selected ≤ 4) × (g .visible ≤ g .columns) ⌝ }
-    ensures { λ r. ⌜ r ≡ pen (viewOf g s) (s .spans) ⌝ }
+    ensures { λ r. ⌜ r ≡ spot (viewOf g s) (s .spans) ⌝ }
 {
     let view = state::view_of(g, s);
     let spans = s.spans;
-    Pen { view, spans }
+    Spot { view, spans }
 }
 
-// The state after a move: the current window's cursor and the spans where the pen has them.
-pub fn settle(s: State, p: Pen) -> State
+// The state after a move: the current window's cursor and the spans where the spot has them.
+pub fn settle(s: State, p: Spot) -> State
     requires { ⌜ (s .selected ≤ 4) × (p .view .left + p .view .x < 65536) × (p .view .top + p .view .y < 65536) ⌝ }
     ensures { λ r. ⌜ r ≡ withSpans (withView s (p .view)) (p .spans) ⌝ }
 {
@@ -46,9 +46,9 @@ pub fn settle(s: State, p: Pen) -> State
     State { spans, ..t }
 }
 
-// Where a run of characters ended: the pen, and the place after its last byte.
+// Where a run of characters ended: the spot, and the place after its last byte.
 pub struct Drawn {
-    pub pen: Pen,
+    pub spot: Spot,
     pub at: usize,
 }
 
@@ -58,7 +58,7 @@ pub fn run(
     g: Geometry,
     mem: &mut [u8],
     font: &[u8],
-    p: Pen,
+    p: Spot,
     w: u8,
     style: Style,
     piece: &[u8],
@@ -75,12 +75,12 @@ pub fn run(
     while i < piece.len() {
         let b = piece[i];
         if b < 0x20 {
-            return Drawn { pen: q, at: i };
+            return Drawn { spot: q, at: i };
         }
         q = text::in_line(g, mem, font, q, w, style, c, l, b);
         i += 1;
     }
-    Drawn { pen: q, at: i }
+    Drawn { spot: q, at: i }
 }
 
 // A character.
@@ -88,7 +88,7 @@ pub fn character(g: Geometry, mem: &mut [u8], font: &[u8], s: State, code: u8) -
     requires { ⌜ Ready g s (now mem) × ((length (now font) ≡ fontLength) × (0x20 ≤ code)) ⌝ }
     ensures { λ r. ⌜ Does g (now (mem .entry)) r (now (mem .exit)) (commandOf g (now (font .entry)) s (Command.Character code)) ⌝ }
 {
-    let p = pen_of(g, s);
+    let p = spot_of(g, s);
     let v = s.settings;
     let style = v.style;
     let w = v.width;
@@ -104,7 +104,7 @@ pub fn tab(g: Geometry, mem: &mut [u8], s: State) -> Done
     requires { ⌜ Ready g s (now mem) ⌝ }
     ensures { λ r. ⌜ ((font : List ℕ) → Does g (now (mem .entry)) r (now (mem .exit)) (commandOf g font s Command.Tab)) ⌝ }
 {
-    let p = pen_of(g, s);
+    let p = spot_of(g, s);
     let v = s.settings;
     let style = v.style;
     let w = v.width;
@@ -121,7 +121,7 @@ pub fn line_feed(g: Geometry, mem: &mut [u8], s: State) -> Done
     requires { ⌜ Ready g s (now mem) ⌝ }
     ensures { λ r. ⌜ ((font : List ℕ) → Does g (now (mem .entry)) r (now (mem .exit)) (commandOf g font s Command.LineFeed)) ⌝ }
 {
-    let p = pen_of(g, s);
+    let p = spot_of(g, s);
     let v = s.settings;
     let style = v.style;
     let w = v.width;
@@ -137,7 +137,7 @@ pub fn clear(g: Geometry, mem: &mut [u8], s: State) -> Done
     requires { ⌜ Ready g s (now mem) ⌝ }
     ensures { λ r. ⌜ ((font : List ℕ) → Does g (now (mem .entry)) r (now (mem .exit)) (commandOf g font s Command.Clear)) ⌝ }
 {
-    let p = pen_of(g, s);
+    let p = spot_of(g, s);
     let q = moves::clear(g, mem, p);
     carry_state::ends(settle(s, q), Outcome::Carried)
 }
@@ -159,19 +159,19 @@ pub fn initialise(g: Geometry, mem: &mut [u8], s: State, held: bool) -> Done
 
 // ---- an image byte
 
-// One byte of an image, so far from the pen's cursor; outside the range it is consumed. The cursor stays. It knows no state, so
+// One byte of an image, so far from the spot's cursor; outside the range it is consumed. The cursor stays. It knows no state, so
 // that the compiler need not lay one down for each byte.
-pub fn picture(
+pub fn image_byte(
     g: Geometry,
     mem: &mut [u8],
-    p: Pen,
+    p: Spot,
     style: Style,
     column: u16,
     row: u16,
     byte: u8,
 ) -> [Span; 2]
     requires { ⌜ Usable g × (InMemory g (p .view) × Fits g (now mem)) ⌝ }
-    ensures { λ r. ⌜ Pictured g p style column row byte (now (mem .entry)) r (now (mem .exit)) ⌝ }
+    ensures { λ r. ⌜ ImageStored g p style column row byte (now (mem .entry)) r (now (mem .exit)) ⌝ }
 {
     let v = p.view;
     let before = p.spans;
@@ -218,16 +218,16 @@ pub struct Filled {
     pub at: usize,
 }
 
-// A pen with other spans.
-fn with_spans(p: Pen, spans: [Span; 2]) -> Pen
-    ensures { λ r. ⌜ r ≡ pen (p .view) spans ⌝ }
+// A spot with other spans.
+fn with_spans(p: Spot, spans: [Span; 2]) -> Spot
+    ensures { λ r. ⌜ r ≡ spot (p .view) spans ⌝ }
 {
     let view = p.view;
-    Pen { view, spans }
+    Spot { view, spans }
 }
 
 // Where a run ended.
-fn ended(p: Pen, column: u16, row: u16, at: usize) -> Filled
+fn ended(p: Spot, column: u16, row: u16, at: usize) -> Filled
     ensures { λ r. ⌜ r ≡ filled (p .spans) column row at ⌝ }
 {
     let spans = p.spans;
@@ -240,10 +240,10 @@ fn ended(p: Pen, column: u16, row: u16, at: usize) -> Filled
 }
 
 // The bytes of an image in a piece from `from` on, up to the piece's end or the image's.
-pub fn pictures(
+pub fn image_bytes(
     g: Geometry,
     mem: &mut [u8],
-    p: Pen,
+    p: Spot,
     style: Style,
     width: u16,
     height: u16,
@@ -261,7 +261,7 @@ pub fn pictures(
     let mut y = row;
     let mut i = from;
     while i < piece.len() {
-        let spans = picture(g, mem, q, style, x, y, piece[i]);
+        let spans = image_byte(g, mem, q, style, x, y, piece[i]);
         q = with_spans(q, spans);
         let next = place_after(height, x, y);
         x = next.column;

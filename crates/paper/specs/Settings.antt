@@ -13,7 +13,7 @@ use Rattle.paper.specs.declared.Window.{Window}
 use Rattle.paper.specs.declared.Span.{Span}
 use Rattle.paper.specs.declared.View.{View}
 use Rattle.paper.specs.declared.Key.{Key}
-use Rattle.paper.specs.declared.Key.the-variants.{Charset, Codes, Shown, Brightness, Reverse, Speed, Mixing, Width, Write}
+use Rattle.paper.specs.declared.Key.the-variants.{Charset, Codes, Caret, Brightness, Reverse, Speed, Mixing, Width, Write}
 use Rattle.paper.specs.declared.Half.{Half}
 use Rattle.paper.specs.declared.Half.the-variants.{Nothing}
 use Rattle.paper.specs.declared.Hold.{Hold}
@@ -30,7 +30,7 @@ initialStyle = record { reverse = 0; mixing = 0; across = 1; down = 1 }
 
 unfoldable pub initialSettings : Settings
 initialSettings =
-    record { charset = 0; codes = 0; shown = 0; brightness = 8; speed = 0; width = 1; write = 0; style = initialStyle }
+    record { charset = 0; codes = 0; caret = 0; brightness = 8; speed = 0; width = 1; write = 0; style = initialStyle }
 
 -- a cursor at the window's top left, in MD1
 unfoldable pub topLeft : Cursor
@@ -88,7 +88,7 @@ withSpans s ps = makeState (s .settings) (s .windows) (s .base) (s .selected) (s
 unfoldable pub inDomain : Key → ℕ → Bool
 inDomain Charset n = leb n 13
 inDomain Codes n = leb n 5 || between 16 19 n
-inDomain Shown n = leb n 1
+inDomain Caret n = leb n 1
 inDomain Brightness n = between 1 8 n
 inDomain Reverse n = leb n 1
 inDomain Speed n = leb n 31
@@ -102,11 +102,11 @@ inEnlargement x y = between 1 4 x && between 1 2 y
 
 -- settings and a style by their parts
 abbrev pub makeSettings : ℕ → ℕ → ℕ → ℕ → ℕ → ℕ → ℕ → Style → Settings
-makeSettings charset codes shown brightness speed width write y =
+makeSettings charset codes caret brightness speed width write y =
     record {
       charset = charset;
       codes = codes;
-      shown = shown;
+      caret = caret;
       brightness = brightness;
       speed = speed;
       width = width;
@@ -118,22 +118,22 @@ abbrev pub makeStyle : ℕ → ℕ → ℕ → ℕ → Style
 makeStyle reverse mixing across down = record { reverse = reverse; mixing = mixing; across = across; down = down }
 
 abbrev pub withStyle : Settings → Style → Settings
-withStyle v y = makeSettings (v .charset) (v .codes) (v .shown) (v .brightness) (v .speed) (v .width) (v .write) y
+withStyle v y = makeSettings (v .charset) (v .codes) (v .caret) (v .brightness) (v .speed) (v .width) (v .write) y
 
 abbrev pub enlarged : Settings → ℕ → ℕ → Settings
 enlarged v x y = withStyle v (makeStyle (v .style .reverse) (v .style .mixing) x y)
 
 -- one setting changed, all others kept
 unfoldable pub withSetting : Settings → Key → ℕ → Settings
-withSetting v Charset n = makeSettings n (v .codes) (v .shown) (v .brightness) (v .speed) (v .width) (v .write) (v .style)
-withSetting v Codes n = makeSettings (v .charset) n (v .shown) (v .brightness) (v .speed) (v .width) (v .write) (v .style)
-withSetting v Shown n = makeSettings (v .charset) (v .codes) n (v .brightness) (v .speed) (v .width) (v .write) (v .style)
-withSetting v Brightness n = makeSettings (v .charset) (v .codes) (v .shown) n (v .speed) (v .width) (v .write) (v .style)
+withSetting v Charset n = makeSettings n (v .codes) (v .caret) (v .brightness) (v .speed) (v .width) (v .write) (v .style)
+withSetting v Codes n = makeSettings (v .charset) n (v .caret) (v .brightness) (v .speed) (v .width) (v .write) (v .style)
+withSetting v Caret n = makeSettings (v .charset) (v .codes) n (v .brightness) (v .speed) (v .width) (v .write) (v .style)
+withSetting v Brightness n = makeSettings (v .charset) (v .codes) (v .caret) n (v .speed) (v .width) (v .write) (v .style)
 withSetting v Reverse n = withStyle v (makeStyle n (v .style .mixing) (v .style .across) (v .style .down))
-withSetting v Speed n = makeSettings (v .charset) (v .codes) (v .shown) (v .brightness) n (v .width) (v .write) (v .style)
+withSetting v Speed n = makeSettings (v .charset) (v .codes) (v .caret) (v .brightness) n (v .width) (v .write) (v .style)
 withSetting v Mixing n = withStyle v (makeStyle (v .style .reverse) n (v .style .across) (v .style .down))
-withSetting v Width n = makeSettings (v .charset) (v .codes) (v .shown) (v .brightness) (v .speed) n (v .write) (v .style)
-withSetting v Write n = makeSettings (v .charset) (v .codes) (v .shown) (v .brightness) (v .speed) (v .width) n (v .style)
+withSetting v Width n = makeSettings (v .charset) (v .codes) (v .caret) (v .brightness) (v .speed) n (v .write) (v .style)
+withSetting v Write n = makeSettings (v .charset) (v .codes) (v .caret) (v .brightness) (v .speed) (v .width) n (v .style)
 
 -- ---- windows
 

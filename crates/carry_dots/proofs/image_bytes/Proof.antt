@@ -1,4 +1,4 @@
--- `carry_dots::pictures` meets its contract. The loop's invariant: what is left gives what the whole run gives. Assumes nothing.
+-- `carry_dots::image_bytes` meets its contract. The loop's invariant: what is left gives what the whole run gives. Assumes nothing.
 use borrow.Author.Needs.{needs}
 use mathlib.Core.Path.{_≡_, refl, sym, ap, _∙_}
 use Prim.Native.Nat.{_+_, _-_, _<_, _≤_}
@@ -6,10 +6,10 @@ use native.Mathlib.Omega.{arith}
 use lib.ListN.{length}
 use borrow.Author.Tests.{eq-eqb, ne-eqb}
 use Rattle.laws_state.specs.Room.{InMemory}
-use Rattle.moves.specs.declared.Pen.{Pen}
+use Rattle.moves.specs.declared.Spot.{Spot}
 use Rattle.carry_dots.proofs.Running.{Filling, filling-begin, filling-next, filling-whole, filling-end}
-use Rattle.carry_dots.proofs.pictures.Statement.{statement}
-use Rattle.carry_dots.proofs.pictures.Tie as tie
+use Rattle.carry_dots.proofs.image_bytes.Statement.{statement}
+use Rattle.carry_dots.proofs.image_bytes.Tie as tie
 
 abbrev Inv-loop : tie.InvT-loop
 Inv-loop g mem₀ style width height column row piece from q₀ x₀ y₀ i₀ mem q x y i = Filling g q₀ style width height column row mem₀ piece from q mem x y i
@@ -23,8 +23,8 @@ loop-holds c =
     let a = start .args in
     filling-begin (a .g) (a .p) (a .style) (a .width) (a .height) (a .column) (a .row) (a .mem .now) (a .piece .now) (a .from) (start .pre .1 .0) (start .pre .1 .1) (start .pre .1 .2)
 
-picture-requires : tie.Need-picture-requires Inv-loop μ-loop
-picture-requires c κs =
+image-byte-requires : tie.Need-image-byte-requires Inv-loop μ-loop
+image-byte-requires c κs =
     let head = c .before .before .before in
     let start = head .before .before .before in
     let k = head .loop .inv in
@@ -57,7 +57,7 @@ returns c =
     rw (c .ended .ensures, spanned .with-spans .ensures)
     (filling-whole (a .g) (a .p) (a .style) (a .width) (a .height) (a .column) (a .row) (a .mem .now) (a .piece .now) (a .from)
     (head .loop .q) (head .loop .mem) (head .loop .x) (head .loop .y) (head .loop .i) (head .loop .inv) (inside turn)
-    (placed .place-after .result) (placed .place-after .ensures) _ _ (storing .picture .ensures) (eq-eqb _ _ (tested .if1 .taken)))
+    (placed .place-after .result) (placed .place-after .ensures) _ _ (storing .image-byte .ensures) (eq-eqb _ _ (tested .if1 .taken)))
 
 loop-again : tie.Need-loop-again Inv-loop μ-loop
 loop-again c =
@@ -71,7 +71,7 @@ loop-again c =
     rw (spanned .with-spans .ensures)
     (filling-next (a .g) (a .p) (a .style) (a .width) (a .height) (a .column) (a .row) (a .mem .now) (a .piece .now) (a .from)
     (head .loop .q) (head .loop .mem) (head .loop .x) (head .loop .y) (head .loop .i) (head .loop .inv) (inside turn)
-    (placed .place-after .result) (placed .place-after .ensures) _ _ (storing .picture .ensures) (storing .picture .kept .1 .0) (ne-eqb _ _ (c .if1 .left)))
+    (placed .place-after .result) (placed .place-after .ensures) _ _ (storing .image-byte .ensures) (storing .image-byte .kept .1 .0) (ne-eqb _ _ (c .if1 .left)))
 
 returns-2 : tie.Need-returns-2 Inv-loop μ-loop
 returns-2 c =
@@ -82,20 +82,20 @@ returns-2 c =
     (filling-end (a .g) (a .p) (a .style) (a .width) (a .height) (a .column) (a .row) (a .mem .now) (a .piece .now) (a .from)
     (head .loop .q) (head .loop .mem) (head .loop .x) (head .loop .y) (head .loop .i) (head .loop .inv) (start .pre .1 .2) (omega arith))
 
-pub pictures-spec : {M : Type 1} → statement M
-pictures-spec =
+pub image-bytes-spec : {M : Type 1} → statement M
+image-bytes-spec =
     tie.close
     (tie.spec
     Inv-loop
     μ-loop
     loop-holds
     (λ c. omega arith)
-    picture-requires
+    image-byte-requires
     (λ c κs. search needs)
     place-after-requires
     (λ c. omega (arith, countable (c .before .before .before .before .before .before .before)))
     (λ c κs. search needs)
-    (λ c. c .before .before .before .before .before .before .picture .kept .1 .0 ∙ c .before .before .before .before .before .before .before .before .before .before .loop .inv .size)
+    (λ c. c .before .before .before .before .before .before .image-byte .kept .1 .0 ∙ c .before .before .before .before .before .before .before .before .before .before .loop .inv .size)
     returns
     (λ c. omega arith)
     loop-again
