@@ -36,7 +36,7 @@ fn write_as(word: &[u8], glass: &[u8], note: &[u8])
         write_pbm(glass);
         return;
     }
-    view_calls::complain(b"an argument that is neither draw nor pbm");
+    view_io::complain(b"an argument that is neither draw nor pbm");
 }
 
 // Writes the glass as argument i asks.
@@ -60,7 +60,7 @@ fn write_all(glass: &[u8], note: &[u8])
 fn main() {
     let mut glass = [0u8; 224];
     let mut note = [0u8; 256];
-    if !view_calls::read_glass(&mut glass) {
+    if !view_io::read_glass(&mut glass) {
         return;
     }
     let n = io::read_full(STDIN_FILENO, &mut note);
