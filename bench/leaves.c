@@ -6,7 +6,7 @@
 #include <stdlib.h>
 #include <string.h>
 
-/* ---- the proved leaves (crates/leaves): a slice is a pointer and a length */
+/* ---- the proved leaves (crates/bench_leaves): a slice is a pointer and a length */
 void leaf_clear(uint8_t *mem, size_t n, uint16_t left, uint16_t top, uint16_t width, uint16_t height);
 void leaf_scroll_up(uint8_t *mem, size_t n, uint16_t left, uint16_t top, uint16_t width, uint16_t height, uint16_t lines);
 void leaf_move_left(uint8_t *mem, size_t n, uint16_t left, uint16_t top, uint16_t width, uint16_t height, uint16_t by);

@@ -12,15 +12,15 @@ use Rattle.paper.specs.Reading.{readFirst, readUnit, readGroup, readWindows, re
 use Rattle.paper.specs.Settings.{initialStyle, initialSettings, topLeft, initialState, inDomain, inEnlargement, selectable, fits}
 use Rattle.paper.specs.Bounds.{settingsOk, cursorOk, isBlank, windowOk, windowsOk, holdOk, spanOk, halfOk, accepted}
 use Rattle.paper.specs.Cells.{eraseStroke}
-use Rattle.paper.specs.Carry.{notCarried, isHeld, ownersOnly, outOfDomain, notDefined, cellExceeds, carriedOut, commandOf, takeOf, byteMeans}
+use Rattle.paper.specs.Carry.{asks, isHeld, carriedOut, commandOf, takeOf, byteMeans}
 use Rattle.paper.specs.Calls.{isAccepted, started, startCall, Feeding, run, fedNothing, holdRefusal, holdCall}
-use Rattle.marked.specs.Marked.{windowOne}
-use Rattle.kept.proofs.Views.{panel-usable}
-use Rattle.kept.proofs.Calls.{started-accepted}
-use Rattle.kept.proofs.Refusals.{feed-taken}
-use Rattle.kept.proofs.Outside.{length-run}
-use Rattle.kept.proofs.Joined.{feed-runs}
-use Rattle.dots.proofs.Strokes.{apply-length}
+use Rattle.laws_marked.specs.Marked.{windowOne}
+use Rattle.laws_state.proofs.Views.{panel-usable}
+use Rattle.laws_state.proofs.Calls.{started-accepted}
+use Rattle.laws_state.proofs.Refusals.{feed-taken}
+use Rattle.laws_state.proofs.Outside.{length-run}
+use Rattle.laws_state.proofs.Joined.{feed-runs}
+use Rattle.laws_memory.proofs.Strokes.{apply-length}
 use Rattle.demands.specs.Events.{onwards}
 use Rattle.demands.specs.Demands.{holdNumber, windowFed}
 use Rattle.demands.proofs.Calls.{start-answers}
@@ -37,12 +37,12 @@ erased m = applyAll panel m (eraseStroke panel ∷ [])
 module _ (font : List ℕ) where
   -- window 1 can be held
   pub holdable : holdNumber panel (withWindow font) 1 ≡ 0
-  unfolding panel grown grownBy refusalNumber readFirst readUnit readGroup readWindows readWindowB readWord readOf initialStyle initialSettings topLeft initialState inDomain inEnlargement selectable fits settingsOk cursorOk isBlank windowOk windowsOk holdOk spanOk halfOk accepted notCarried isHeld ownersOnly outOfDomain notDefined cellExceeds carriedOut commandOf takeOf byteMeans isAccepted holdRefusal holdCall
+  unfolding panel grown grownBy refusalNumber readFirst readUnit readGroup readWindows readWindowB readWord readOf initialStyle initialSettings topLeft initialState inDomain inEnlargement selectable fits settingsOk cursorOk isBlank windowOk windowsOk holdOk spanOk halfOk accepted asks isHeld carriedOut commandOf takeOf byteMeans isAccepted holdRefusal holdCall
   holdable = refl
 
   -- the base window is selected, and no setting is changed
   pub as-initial : (withWindow font .selected ≡ 0) × (withWindow font .settings ≡ initialSettings)
-  unfolding panel grown grownBy readFirst readUnit readGroup readWindows readWindowB readWord readOf initialState fits notCarried isHeld ownersOnly outOfDomain notDefined cellExceeds carriedOut commandOf takeOf byteMeans
+  unfolding panel grown grownBy readFirst readUnit readGroup readWindows readWindowB readWord readOf initialState fits asks isHeld carriedOut commandOf takeOf byteMeans
   as-initial = (refl, refl)
 
 -- the start is not refused

@@ -18,26 +18,14 @@ use Rattle.paper.specs.Settings.{withSpans}
 use Rattle.paper.specs.Bounds.{accepted}
 use Rattle.paper.specs.Carry.{byteMeans}
 use Rattle.paper.specs.Calls.{Feeding, feedRefusal, next, run, fedNothing, feedCall}
-use Rattle.kept.specs.Room.{Usable}
-use Rattle.kept.proofs.Accepted.{run-accepted}
-use Rattle.kept.proofs.Refusals.{feed-taken}
-use Rattle.kept.proofs.Outside.{length-run}
-use Rattle.kept.proofs.Joined.{feed-runs, run-refusal}
+use Rattle.laws_bytes.proofs.Counts.{counts-as}
+use Rattle.laws_state.specs.Room.{Usable}
+use Rattle.laws_state.proofs.Accepted.{run-accepted}
+use Rattle.laws_state.proofs.Refusals.{feed-taken}
+use Rattle.laws_state.proofs.Outside.{length-run}
+use Rattle.laws_state.proofs.Joined.{feed-runs, run-refusal}
 use Rattle.demands.specs.Demands.{ByteFed, OnlyAnswered, fedOnce, fedSingly, PieceFed}
 use Rattle.demands.proofs.Outcomes.{byte-answers}
-
--- what 11 to 17 count as
-counts-as : (o : Outcome) → 11 ≤ outcomeNumber o → (carriedBy o ≡ 0) × (answeredBy o ≡ 1)
-unfolding outcomeNumber carriedBy answeredBy
-counts-as Unfinished l = absurd (omega arith)
-counts-as Carried l = absurd (omega arith)
-counts-as OutOfDomain l = (refl, refl)
-counts-as Cancelled l = (refl, refl)
-counts-as Unknown l = (refl, refl)
-counts-as NotCarried l = (refl, refl)
-counts-as WindowHeld l = (refl, refl)
-counts-as TooLarge l = (refl, refl)
-counts-as NotDefined l = (refl, refl)
 
 module _ (g : Geometry) (font : List ℕ) where
   module _ (s : State) (m : List ℕ) (taken : feedRefusal g font s m ≡ Accepted) where

@@ -12,7 +12,7 @@ use Rattle.paper.specs.declared.Half.the-variants.{Nothing}
 use Rattle.paper.specs.declared.Command.{Command}
 use Rattle.paper.specs.declared.Command.the-variants.{Character, Back, Tab, LineFeed, Home, Clear, Return, Select, Initialise, Mode, Set, Enlarge, CursorSet, Define, Cancel, Uncarried}
 use Rattle.paper.specs.declared.Reading.{Reading}
-use Rattle.paper.specs.declared.Reading.the-variants.{More, Whole, Picture, PictureEnd, Cancels, UnknownCode}
+use Rattle.paper.specs.declared.Reading.the-variants.{More, Whole, ImageByte, ImageEnd, Cancels, UnknownCode}
 use Rattle.paper.specs.declared.Outcome.{Outcome}
 use Rattle.paper.specs.declared.Outcome.the-variants.{Carried, OutOfDomain, NotCarried, WindowHeld, TooLarge, NotDefined}
 use Rattle.paper.specs.declared.State.{State}
@@ -20,10 +20,10 @@ use Rattle.paper.specs.Strokes.{applyAll, markAll}
 use Rattle.paper.specs.Reading.{readOf}
 use Rattle.paper.specs.Settings.{withHalf, withSpans, cancelled, cursorOf, atCursor, inMode, insideWindow, viewOf, cursorIn}
 use Rattle.paper.specs.Moves.{Moved, htOf, characterOf, lineFeedOf, clearOf}
-use Rattle.paper.specs.Carry.{Meaning, means, moves, becomes, isHeld, notCarried, ownersOnly, outOfDomain, notDefined, cellExceeds, widthNow, heightNow, carriedOut, answers, commandOf, imageStrokes, takeOf, byteMeans}
+use Rattle.paper.specs.Carry.{Meaning, means, moves, becomes, isHeld, askedOf, widthNow, heightNow, carriedOut, answers, commandOf, imageStrokes, takeOf, byteMeans}
 use Rattle.paper.specs.Calls.{Feeding, feeding, settled, counted, next, run}
-use Rattle.dots.proofs.Strokes.{apply-append}
-use Rattle.dots.proofs.Spans.{marks-append}
+use Rattle.laws_memory.proofs.Strokes.{apply-append}
+use Rattle.laws_memory.proofs.Spans.{marks-append}
 use Rattle.demands.specs.Events.{onwards, strokesOf}
 
 -- ---- one byte
@@ -59,27 +59,10 @@ module _ (ps : List Span) (s : State) where
   placed-same k = ap (λ (q : State). becomes q) (at-same k)
 
   module _ (g : Geometry) where
-    -- what 11, 17 and 16 test
-    tests-same : (c : Command)
-        → (outOfDomain g (withSpans s ps) c ≡ outOfDomain g s c) × (notDefined (withSpans s ps) c ≡ notDefined s c)
-        × (cellExceeds g (withSpans s ps) c ≡ cellExceeds g s c)
-    unfolding outOfDomain insideWindow notDefined cellExceeds viewOf
-    tests-same (Character b) = (refl, refl, refl)
-    tests-same Back = (refl, refl, refl)
-    tests-same Tab = (refl, refl, refl)
-    tests-same LineFeed = (refl, refl, refl)
-    tests-same Home = (refl, refl, refl)
-    tests-same Clear = (refl, refl, refl)
-    tests-same Return = (refl, refl, refl)
-    tests-same (Select k) = (refl, refl, refl)
-    tests-same Initialise = (refl, refl, refl)
-    tests-same (Mode n) = (refl, refl, refl)
-    tests-same (Set key n) = (refl, refl, refl)
-    tests-same (Enlarge x y) = (refl, refl, refl)
-    tests-same (CursorSet x y) = (refl, refl, refl)
-    tests-same (Define a left top width height) = (refl, refl, refl)
-    tests-same (Cancel a) = (refl, refl, refl)
-    tests-same Uncarried = (refl, refl, refl)
+    -- what a command is asked
+    asked-same : (c : Command) → askedOf g (withSpans s ps) c ≡ askedOf g s c
+    unfolding insideWindow viewOf
+    asked-same c = refl
 
     -- a move of the range
     moved-same : (t : Moved) → moves (withSpans s ps) t ≡ respan ps (moves s t)
@@ -111,13 +94,12 @@ module _ (ps : List Span) (s : State) where
     command-same : (font : List ℕ) (c : Command) → commandOf g font (withSpans s ps) c ≡ respan ps (commandOf g font s c)
     unfolding commandOf
     command-same font c =
-        let same = tests-same c in
-        rw (same .0, same .1, same .2, carried-same font c)
-        (same-cond (respan ps) (notCarried c) (answered-same NotCarried)
-        (same-cond (respan ps) (ownersOnly c && isHeld (s .hold)) (answered-same WindowHeld)
-        (same-cond (respan ps) (outOfDomain g s c) (answered-same OutOfDomain)
-        (same-cond (respan ps) (notDefined s c) (answered-same NotDefined)
-        (same-cond (respan ps) (cellExceeds g s c) (answered-same TooLarge) refl)))))
+        rw (asked-same c, carried-same font c)
+        (same-cond (respan ps) (askedOf g s c .notCarried) (answered-same NotCarried)
+        (same-cond (respan ps) (askedOf g s c .ownersOnly && isHeld (s .hold)) (answered-same WindowHeld)
+        (same-cond (respan ps) (askedOf g s c .outOfDomain) (answered-same OutOfDomain)
+        (same-cond (respan ps) (askedOf g s c .notDefined) (answered-same NotDefined)
+        (same-cond (respan ps) (askedOf g s c .tooLarge) (answered-same TooLarge) refl)))))
 
 module _ (g : Geometry) (font : List ℕ) (ps : List Span) (s : State) where
   -- whatever is read
@@ -125,8 +107,8 @@ module _ (g : Geometry) (font : List ℕ) (ps : List Span) (s : State) where
   unfolding takeOf viewOf imageStrokes respan
   reading-same (More p) = refl
   reading-same (Whole c) = command-same ps (withHalf s Nothing) g font c
-  reading-same (Picture column row b next) = refl
-  reading-same (PictureEnd column row b) = refl
+  reading-same (ImageByte column row b next) = refl
+  reading-same (ImageEnd column row b) = refl
   reading-same Cancels = refl
   reading-same UnknownCode = refl
 

@@ -12,7 +12,7 @@ use Rattle.paper.specs.declared.Span.{Span}
 use Rattle.paper.specs.declared.Half.the-variants.{Nothing}
 use Rattle.paper.specs.declared.Command.{Command}
 use Rattle.paper.specs.declared.Reading.{Reading}
-use Rattle.paper.specs.declared.Reading.the-variants.{More, Whole, Picture, PictureEnd, Cancels, UnknownCode}
+use Rattle.paper.specs.declared.Reading.the-variants.{More, Whole, ImageByte, ImageEnd, Cancels, UnknownCode}
 use Rattle.paper.specs.declared.Refusal.{Refusal}
 use Rattle.paper.specs.declared.Refusal.the-variants.{Accepted}
 use Rattle.paper.specs.declared.State.{State}
@@ -23,10 +23,10 @@ use Rattle.paper.specs.Reading.{between}
 use Rattle.paper.specs.Settings.{initialSettings, initialState, withHalf, withSpans, windowAt, isDefined}
 use Rattle.paper.specs.Bounds.{accepted}
 use Rattle.paper.specs.Cells.{eraseStroke}
-use Rattle.paper.specs.Carry.{notCarried, isHeld, ownersOnly, outOfDomain, notDefined, cellExceeds, Meaning}
+use Rattle.paper.specs.Carry.{Asked, askedOf, isHeld, Meaning}
 use Rattle.paper.specs.Calls.{Feeding, feeding, settled, run, fedNothing, started, startCall, feedCall, heldBy, holdCall, released, releaseCall, emptied, Refreshing, refreshCall}
-use Rattle.marked.specs.Marked.{windowOne}
-use Rattle.kept.specs.Guest.{Holding, Guest, OnlyInside}
+use Rattle.laws_marked.specs.Marked.{windowOne}
+use Rattle.laws_state.specs.Guest.{Holding, Guest, OnlyInside}
 use Rattle.demands.specs.Events.{Event, refresh, Play, refreshedThen, followed, play, noSpans, spansSince, owed, visible}
 
 -- ==== DEMAND 1. "Any bytes, buffers and state record may be handed in. Each call answers or refuses by document 01's numbers,
@@ -169,34 +169,34 @@ pub record ByteFed (g : Geometry) (m : List ℕ) (t : Meaning) (f : Feeding) : T
 abbrev pub finishes : Reading → Bool
 finishes (More p) = false
 finishes (Whole c) = true
-finishes (Picture column row b next) = false
-finishes (PictureEnd column row b) = true
+finishes (ImageByte column row b next) = false
+finishes (ImageEnd column row b) = true
 finishes Cancels = true
 finishes UnknownCode = true
 
 abbrev pub endsImage : Reading → Bool
 endsImage (More p) = false
 endsImage (Whole c) = false
-endsImage (Picture column row b next) = false
-endsImage (PictureEnd column row b) = true
+endsImage (ImageByte column row b next) = false
+endsImage (ImageEnd column row b) = true
 endsImage Cancels = false
 endsImage UnknownCode = false
 
-abbrev pub IsCommand : Reading → (Command → Type 0) → Type 0
-IsCommand r P = (c : Command) × (r ≡ Whole c) × P c
+abbrev pub IsCommand : Geometry → State → Reading → (Asked → Type 0) → Type 0
+IsCommand g s r P = (c : Command) × (r ≡ Whole c) × P (askedOf g s c)
 
 -- "Order for one command: .. then 14, 15, 11, 17, 16": P, and of a row and those before it none holds
-abbrev pub After14 : Command → Type 0 → Type 0
-After14 c P = (notCarried c ≡ false) × P
+abbrev pub After14 : Asked → Type 0 → Type 0
+After14 a P = (a .notCarried ≡ false) × P
 
-abbrev pub After15 : State → Command → Type 0 → Type 0
-After15 s c P = After14 c (((ownersOnly c && isHeld (s .hold)) ≡ false) × P)
+abbrev pub After15 : State → Asked → Type 0 → Type 0
+After15 s a P = After14 a (((a .ownersOnly && isHeld (s .hold)) ≡ false) × P)
 
-abbrev pub After11 : Geometry → State → Command → Type 0 → Type 0
-After11 g s c P = After15 s c ((outOfDomain g s c ≡ false) × P)
+abbrev pub After11 : State → Asked → Type 0 → Type 0
+After11 s a P = After15 s a ((a .outOfDomain ≡ false) × P)
 
-abbrev pub After17 : Geometry → State → Command → Type 0 → Type 0
-After17 g s c P = After11 g s c ((notDefined s c ≡ false) × P)
+abbrev pub After17 : State → Asked → Type 0 → Type 0
+After17 s a P = After11 s a ((a .notDefined ≡ false) × P)
 
 -- s is the state with nothing half read, r what the byte was read as, t what it comes to
 pub record ByteAnswers (g : Geometry) (s : State) (r : Reading) (t : Meaning) : Type 0 where
@@ -205,22 +205,22 @@ pub record ByteAnswers (g : Geometry) (s : State) (r : Reading) (t : Meaning) : 
   pub number-9 : (outcomeNumber (t .outcome) ≡ 9) ↔ (finishes r ≡ false)
   -- 10: "when it finished a command that was carried out"
   pub number-10 : (outcomeNumber (t .outcome) ≡ 10)
-      ↔ ((endsImage r ≡ true) ⊎ IsCommand r (λ c. After17 g s c (cellExceeds g s c ≡ false)))
+      ↔ ((endsImage r ≡ true) ⊎ IsCommand g s r (λ a. After17 s a (a .tooLarge ≡ false)))
   -- 11: "command read whole, a parameter out of its domain"
-  pub number-11 : (outcomeNumber (t .outcome) ≡ 11) ↔ IsCommand r (λ c. After15 s c (outOfDomain g s c ≡ true))
+  pub number-11 : (outcomeNumber (t .outcome) ≡ 11) ↔ IsCommand g s r (λ a. After15 s a (a .outOfDomain ≡ true))
   -- 12: "cancelled at a byte"
   pub number-12 : (outcomeNumber (t .outcome) ≡ 12) ↔ (r ≡ Cancels)
   -- 13: "unknown code, given at the byte that makes it unknown"
   pub number-13 : (outcomeNumber (t .outcome) ≡ 13) ↔ (r ≡ UnknownCode)
   -- 14: "not carried, read whole"
-  pub number-14 : (outcomeNumber (t .outcome) ≡ 14) ↔ IsCommand r (λ c. notCarried c ≡ true)
+  pub number-14 : (outcomeNumber (t .outcome) ≡ 14) ↔ IsCommand g s r (λ a. a .notCarried ≡ true)
   -- 15: "refused because a window is held, read whole"
   pub number-15 : (outcomeNumber (t .outcome) ≡ 15)
-      ↔ IsCommand r (λ c. After14 c ((ownersOnly c && isHeld (s .hold)) ≡ true))
+      ↔ IsCommand g s r (λ a. After14 a ((a .ownersOnly && isHeld (s .hold)) ≡ true))
   -- 16: "a character, BS, HT or LF while the character cell exceeds the range"
-  pub number-16 : (outcomeNumber (t .outcome) ≡ 16) ↔ IsCommand r (λ c. After17 g s c (cellExceeds g s c ≡ true))
+  pub number-16 : (outcomeNumber (t .outcome) ≡ 16) ↔ IsCommand g s r (λ a. After17 s a (a .tooLarge ≡ true))
   -- 17: "select of an undefined window"
-  pub number-17 : (outcomeNumber (t .outcome) ≡ 17) ↔ IsCommand r (λ c. After11 g s c (notDefined s c ≡ true))
+  pub number-17 : (outcomeNumber (t .outcome) ≡ 17) ↔ IsCommand g s r (λ a. After11 s a (a .notDefined ≡ true))
   -- "no dot, cursor, window or setting changes by a command so answered": nothing is half read, and that is all
   pub unchanged : 11 ≤ outcomeNumber (t .outcome) → (t .state ≡ s) × (t .strokes ≡ [])
 

@@ -1,13 +1,11 @@
 // The C face: document 01's five calls over byte slices, the state as a record of 103 bytes. No call has a `requires`.
 // It may use the panel's calls, the codec for the record read and the encoder for the record written. include/panel.h declares it.
 // Each contract is one line: what a call answers and leaves is the definition of that call in specs/Face.antt.
-use paper::Outcome;
 use paper::Refusal;
 use paper::State;
 ghost use mathlib.Core.Path.{_≡_};
 ghost use lib.ListN.{length};
-ghost use Rattle.paper.specs.Numbers.{refusalNumber, outcomeNumber};
-ghost use Rattle.encoder.specs.Bytes.{recordLength};
+ghost use Rattle.record_write.specs.Bytes.{recordLength};
 ghost use Rattle.panel_c.specs.Face.{recordAfter, starting, startC, feeding, feedC, calling, holdC, releaseC, refreshing, refreshC};
 
 // The length of a record, and the answer to a record of another length: no number of document 01.
@@ -31,49 +29,13 @@ pub struct PanelRefreshed {
     pub moved: usize,
 }
 
-// ---- numbers
-
-// The number of a refusal; 0 for a call that is not refused.
-fn refusal_number(r: Refusal) -> u32
-    ensures { λ n. ⌜ n ≡ refusalNumber r ⌝ }
-{
-    match r {
-        Refusal::Accepted => 0,
-        Refusal::MemoryLength => 1,
-        Refusal::FontLength => 2,
-        Refusal::GlassLength => 3,
-        Refusal::NoSuchWindow => 4,
-        Refusal::UndefinedWindow => 5,
-        Refusal::HeldAlready => 6,
-        Refusal::NotHeld => 7,
-        Refusal::BrokenState => 8,
-    }
-}
-
-// The number of an outcome.
-fn outcome_number(o: Outcome) -> u32
-    ensures { λ n. ⌜ n ≡ outcomeNumber o ⌝ }
-{
-    match o {
-        Outcome::Unfinished => 9,
-        Outcome::Carried => 10,
-        Outcome::OutOfDomain => 11,
-        Outcome::Cancelled => 12,
-        Outcome::Unknown => 13,
-        Outcome::NotCarried => 14,
-        Outcome::WindowHeld => 15,
-        Outcome::TooLarge => 16,
-        Outcome::NotDefined => 17,
-    }
-}
-
 // Writes the state that a call gave, if its answer is 0; a refused call leaves the record alone.
 fn keep(answer: u32, s: State, to: &mut [u8])
     requires { ⌜ length (now to) ≡ recordLength ⌝ }
     ensures { λ r. ⌜ now (to .exit) ≡ recordAfter answer s (now (to .entry)) ⌝ }
 {
     if answer == 0 {
-        encoder::encode(s, to);
+        record_write::encode(s, to);
     }
 }
 
@@ -90,8 +52,8 @@ pub extern "C" fn panel_start(state: &mut [u8], mem: &mut [u8]) -> u32
     let a = panel::start(mem);
     let s = a.state;
     let refusal = a.refusal;
-    encoder::encode(s, state);
-    refusal_number(refusal)
+    record_write::encode(s, state);
+    numbers::refusal_number(refusal)
 }
 
 // Feeds a piece of the stream. 100: the record is not 103 bytes; then 1, 2, 8.
@@ -112,16 +74,16 @@ pub extern "C" fn panel_feed(
             answered: 0,
         };
     }
-    let s = codec::state_of(state);
+    let s = record_read::state_of(state);
     let f = panel::feed(mem, font, piece, s);
     let fed = f.state;
     let refusal = f.refusal;
     let outcome = f.outcome;
-    let answer = refusal_number(refusal);
+    let answer = numbers::refusal_number(refusal);
     keep(answer, fed, state);
     PanelFed {
         answer,
-        outcome: outcome_number(outcome),
+        outcome: numbers::outcome_number(outcome),
         carried: f.carried,
         answered: f.answered,
     }
@@ -135,11 +97,11 @@ pub extern "C" fn panel_hold(state: &mut [u8], window: usize) -> u32
     if state.len() != RECORD {
         return WRONG_LENGTH;
     }
-    let s = codec::state_of(state);
+    let s = record_read::state_of(state);
     let a = panel::hold(s, window);
     let held = a.state;
     let refusal = a.refusal;
-    let answer = refusal_number(refusal);
+    let answer = numbers::refusal_number(refusal);
     keep(answer, held, state);
     answer
 }
@@ -152,11 +114,11 @@ pub extern "C" fn panel_release(state: &mut [u8]) -> u32
     if state.len() != RECORD {
         return WRONG_LENGTH;
     }
-    let s = codec::state_of(state);
+    let s = record_read::state_of(state);
     let a = panel::release(s);
     let released = a.state;
     let refusal = a.refusal;
-    let answer = refusal_number(refusal);
+    let answer = numbers::refusal_number(refusal);
     keep(answer, released, state);
     answer
 }
@@ -172,11 +134,11 @@ pub extern "C" fn panel_refresh(state: &mut [u8], mem: &[u8], glass: &mut [u8]) 
             moved: 0,
         };
     }
-    let s = codec::state_of(state);
+    let s = record_read::state_of(state);
     let r = panel::refresh(mem, glass, s);
     let emptied = r.state;
     let refusal = r.refusal;
-    let answer = refusal_number(refusal);
+    let answer = numbers::refusal_number(refusal);
     keep(answer, emptied, state);
     PanelRefreshed {
         answer,

@@ -8,12 +8,12 @@ use Rattle.paper.specs.declared.Geometry.{Geometry}
 use Rattle.paper.specs.declared.Style.{Style}
 use Rattle.paper.specs.declared.View.{View}
 use Rattle.paper.specs.declared.Key.{Key}
-use Rattle.paper.specs.declared.Key.the-variants.{Charset, Codes, Shown, Brightness, Reverse, Speed, Mixing, Width, Write}
+use Rattle.paper.specs.declared.Key.the-variants.{Charset, Codes, Caret, Brightness, Reverse, Speed, Mixing, Width, Write}
 use Rattle.paper.specs.declared.Half.the-variants.{Nothing}
 use Rattle.paper.specs.declared.Command.{Command}
 use Rattle.paper.specs.declared.Command.the-variants.{Character, Back, Tab, LineFeed, Home, Clear, Return, Select, Initialise, Mode, Set, Enlarge, CursorSet, Define, Cancel, Uncarried}
 use Rattle.paper.specs.declared.Reading.{Reading}
-use Rattle.paper.specs.declared.Reading.the-variants.{More, Whole, Picture, PictureEnd, Cancels, UnknownCode}
+use Rattle.paper.specs.declared.Reading.the-variants.{More, Whole, ImageByte, ImageEnd, Cancels, UnknownCode}
 use Rattle.paper.specs.declared.Outcome.{Outcome}
 use Rattle.paper.specs.declared.Outcome.the-variants.{Unfinished, Carried, OutOfDomain, Cancelled, Unknown, NotCarried, WindowHeld, TooLarge, NotDefined}
 use Rattle.paper.specs.declared.Hold.{Hold}
@@ -39,32 +39,13 @@ means s o ss = record { state = s; outcome = o; strokes = ss }
 unfoldable pub notCarriedValue : Key → ℕ → Bool
 notCarriedValue Charset n = false
 notCarriedValue Codes n = false
-notCarriedValue Shown n = false
+notCarriedValue Caret n = false
 notCarriedValue Brightness n = false
 notCarriedValue Reverse n = false
 notCarriedValue Speed n = false
 notCarriedValue Mixing n = false
 notCarriedValue Width n = between 2 3 n
 notCarriedValue Write n = false
-
--- 14: "not carried, read whole"
-unfoldable pub notCarried : Command → Bool
-notCarried (Character b) = false
-notCarried Back = false
-notCarried Tab = false
-notCarried LineFeed = false
-notCarried Home = false
-notCarried Clear = false
-notCarried Return = false
-notCarried (Select k) = false
-notCarried Initialise = false
-notCarried (Mode n) = false
-notCarried (Set key n) = notCarriedValue key n
-notCarried (Enlarge x y) = false
-notCarried (CursorSet x y) = false
-notCarried (Define a left top width height) = false
-notCarried (Cancel a) = false
-notCarried Uncarried = true
 
 -- whether a window is held
 unfoldable pub isHeld : Hold → Bool
@@ -75,71 +56,13 @@ isHeld (Held k back v) = true
 unfoldable pub isWrite : Key → Bool
 isWrite Charset = false
 isWrite Codes = false
-isWrite Shown = false
+isWrite Caret = false
 isWrite Brightness = false
 isWrite Reverse = false
 isWrite Speed = false
 isWrite Mixing = false
 isWrite Width = false
 isWrite Write = true
-
--- 15: "While held, initialise, select, WINx, define or cancel, and write mode are answered 15."
-unfoldable pub ownersOnly : Command → Bool
-ownersOnly (Character b) = false
-ownersOnly Back = false
-ownersOnly Tab = false
-ownersOnly LineFeed = false
-ownersOnly Home = false
-ownersOnly Clear = false
-ownersOnly Return = false
-ownersOnly (Select k) = true
-ownersOnly Initialise = true
-ownersOnly (Mode n) = false
-ownersOnly (Set key n) = isWrite key
-ownersOnly (Enlarge x y) = false
-ownersOnly (CursorSet x y) = false
-ownersOnly (Define a left top width height) = true
-ownersOnly (Cancel a) = true
-ownersOnly Uncarried = false
-
--- 11: "command read whole, a parameter out of its domain"; "Cursor set counts from the window's top left; outside the window it
--- is answered 11."
-unfoldable pub outOfDomain : Geometry → State → Command → Bool
-outOfDomain g s (Character b) = false
-outOfDomain g s Back = false
-outOfDomain g s Tab = false
-outOfDomain g s LineFeed = false
-outOfDomain g s Home = false
-outOfDomain g s Clear = false
-outOfDomain g s Return = false
-outOfDomain g s (Select k) = ltb 4 k
-outOfDomain g s Initialise = false
-outOfDomain g s (Mode n) = false
-outOfDomain g s (Set key n) = not (inDomain key n)
-outOfDomain g s (Enlarge x y) = not (inEnlargement x y)
-outOfDomain g s (CursorSet x y) = not (insideWindow g s x y)
-outOfDomain g s (Define a left top width height) = not (fits g left top width height)
-outOfDomain g s (Cancel a) = false
-outOfDomain g s Uncarried = false
-
--- 17: "select of an undefined window"
-unfoldable pub notDefined : State → Command → Bool
-notDefined s (Character b) = false
-notDefined s Back = false
-notDefined s Tab = false
-notDefined s LineFeed = false
-notDefined s Home = false
-notDefined s Clear = false
-notDefined s Return = false
-notDefined s (Select k) = not (selectable (s .windows) k)
-notDefined s Initialise = false
-notDefined s (Mode n) = false
-notDefined s (Set key n) = false
-notDefined s (Enlarge x y) = false
-notDefined s (CursorSet x y) = false
-notDefined s (Define a left top width height) = false
-notDefined s (Cancel a) = false
-notDefined s Uncarried = false
 
 -- the cell's width c and height L
 abbrev pub widthNow : State → ℕ
@@ -148,27 +71,49 @@ widthNow s = cellWidth (s .settings .width) (s .settings .style)
 abbrev pub heightNow : State → ℕ
 heightNow s = cellHeight (s .settings .style)
 
--- 16: "a character, BS, HT or LF while the character cell exceeds the range"
+-- the character cell exceeds the range
 abbrev pub exceeds : Geometry → State → Bool
 exceeds g s = tooLarge (viewOf g s) (widthNow s) (heightNow s)
 
-unfoldable pub cellExceeds : Geometry → State → Command → Bool
-cellExceeds g s (Character b) = exceeds g s
-cellExceeds g s Back = exceeds g s
-cellExceeds g s Tab = exceeds g s
-cellExceeds g s LineFeed = exceeds g s
-cellExceeds g s Home = false
-cellExceeds g s Clear = false
-cellExceeds g s Return = false
-cellExceeds g s (Select k) = false
-cellExceeds g s Initialise = false
-cellExceeds g s (Mode n) = false
-cellExceeds g s (Set key n) = false
-cellExceeds g s (Enlarge x y) = false
-cellExceeds g s (CursorSet x y) = false
-cellExceeds g s (Define a left top width height) = false
-cellExceeds g s (Cancel a) = false
-cellExceeds g s Uncarried = false
+-- What a command is asked before it is carried out, each under its number's words.
+pub record Asked : Type 0 where
+  -- 14: "not carried, read whole"
+  pub notCarried : Bool
+  -- 15: "While held, initialise, select, WINx, define or cancel, and write mode are answered 15."
+  pub ownersOnly : Bool
+  -- 11: "command read whole, a parameter out of its domain"
+  pub outOfDomain : Bool
+  -- 17: "select of an undefined window"
+  pub notDefined : Bool
+  -- 16: "a character, BS, HT or LF while the character cell exceeds the range"
+  pub tooLarge : Bool
+
+abbrev pub asked : Bool → Bool → Bool → Bool → Bool → Asked
+asked n14 n15 n11 n17 n16 =
+    record { notCarried = n14; ownersOnly = n15; outOfDomain = n11; notDefined = n17; tooLarge = n16 }
+
+-- A row for each command: 14, 15, 11, 17, 16. What a row asks of the state is handed in: whether a place lies inside the current
+-- window ("Cursor set ..; outside the window it is answered 11"), whether a window may be selected, whether the cell exceeds the range.
+unfoldable pub asks : Geometry → (ℕ → ℕ → Bool) → (ℕ → Bool) → Bool → Command → Asked
+asks g inside selects large (Character b) = asked false false false false large
+asks g inside selects large Back = asked false false false false large
+asks g inside selects large Tab = asked false false false false large
+asks g inside selects large LineFeed = asked false false false false large
+asks g inside selects large Home = asked false false false false false
+asks g inside selects large Clear = asked false false false false false
+asks g inside selects large Return = asked false false false false false
+asks g inside selects large (Select k) = asked false true (ltb 4 k) (not (selects k)) false
+asks g inside selects large Initialise = asked false true false false false
+asks g inside selects large (Mode n) = asked false false false false false
+asks g inside selects large (Set key n) = asked (notCarriedValue key n) (isWrite key) (not (inDomain key n)) false false
+asks g inside selects large (Enlarge x y) = asked false false (not (inEnlargement x y)) false false
+asks g inside selects large (CursorSet x y) = asked false false (not (inside x y)) false false
+asks g inside selects large (Define a left top width height) = asked false true (not (fits g left top width height)) false false
+asks g inside selects large (Cancel a) = asked false true false false false
+asks g inside selects large Uncarried = asked true false false false false
+
+abbrev pub askedOf : Geometry → State → Command → Asked
+askedOf g s c = asks g (insideWindow g s) (selectable (s .windows)) (exceeds g s) c
 
 -- ---- what a command that is carried out does
 
@@ -208,11 +153,12 @@ answers s o = means s o []
 -- "Order for one command: .. then 14, 15, 11, 17, 16."
 unfoldable pub commandOf : Geometry → List ℕ → State → Command → Meaning
 commandOf g font s c =
-    cond (notCarried c) (answers s NotCarried)
-    (cond (ownersOnly c && isHeld (s .hold)) (answers s WindowHeld)
-    (cond (outOfDomain g s c) (answers s OutOfDomain)
-    (cond (notDefined s c) (answers s NotDefined)
-    (cond (cellExceeds g s c) (answers s TooLarge) (carriedOut g font s c)))))
+    let a = askedOf g s c in
+    cond (a .notCarried) (answers s NotCarried)
+    (cond (a .ownersOnly && isHeld (s .hold)) (answers s WindowHeld)
+    (cond (a .outOfDomain) (answers s OutOfDomain)
+    (cond (a .notDefined) (answers s NotDefined)
+    (cond (a .tooLarge) (answers s TooLarge) (carriedOut g font s c)))))
 
 -- ---- one byte
 
@@ -226,8 +172,8 @@ imageStrokes v y column row b =
 unfoldable pub takeOf : Geometry → List ℕ → State → Reading → Meaning
 takeOf g font s (More p) = means (withHalf s p) Unfinished []
 takeOf g font s (Whole c) = commandOf g font (withHalf s Nothing) c
-takeOf g font s (Picture column row b next) = means (withHalf s next) Unfinished (imageStrokes (viewOf g s) (s .settings .style) column row b)
-takeOf g font s (PictureEnd column row b) = means (withHalf s Nothing) Carried (imageStrokes (viewOf g s) (s .settings .style) column row b)
+takeOf g font s (ImageByte column row b next) = means (withHalf s next) Unfinished (imageStrokes (viewOf g s) (s .settings .style) column row b)
+takeOf g font s (ImageEnd column row b) = means (withHalf s Nothing) Carried (imageStrokes (viewOf g s) (s .settings .style) column row b)
 takeOf g font s Cancels = answers (withHalf s Nothing) Cancelled
 takeOf g font s UnknownCode = answers (withHalf s Nothing) Unknown
 

@@ -1,6 +1,8 @@
 -- Document 01, "Numbers given back": the number of each refusal and of each outcome, and what an outcome counts as.
 -- When each is given stands with the rule that gives it: refusals in Calls, outcomes in Reading and Carry. Assumes nothing.
 use Prim.Native.Nat.{ℕ}
+use mathlib.Core.Bool.{cond}
+use lib.Dec.{leb, eqb}
 use Rattle.paper.specs.declared.Outcome.{Outcome}
 use Rattle.paper.specs.declared.Outcome.the-variants.{Unfinished, Carried, OutOfDomain, Cancelled, Unknown, NotCarried, WindowHeld, TooLarge, NotDefined}
 use Rattle.paper.specs.declared.Refusal.{Refusal}
@@ -33,24 +35,8 @@ outcomeNumber NotDefined = 17
 
 -- "two counts: commands carried out, and commands answered 11 to 17": what an outcome adds to the first
 unfoldable pub carriedBy : Outcome → ℕ
-carriedBy Unfinished = 0
-carriedBy Carried = 1
-carriedBy OutOfDomain = 0
-carriedBy Cancelled = 0
-carriedBy Unknown = 0
-carriedBy NotCarried = 0
-carriedBy WindowHeld = 0
-carriedBy TooLarge = 0
-carriedBy NotDefined = 0
+carriedBy o = cond (eqb (outcomeNumber o) 10) 1 0
 
 -- and to the second
 unfoldable pub answeredBy : Outcome → ℕ
-answeredBy Unfinished = 0
-answeredBy Carried = 0
-answeredBy OutOfDomain = 1
-answeredBy Cancelled = 1
-answeredBy Unknown = 1
-answeredBy NotCarried = 1
-answeredBy WindowHeld = 1
-answeredBy TooLarge = 1
-answeredBy NotDefined = 1
+answeredBy o = cond (leb 11 (outcomeNumber o)) 1 0

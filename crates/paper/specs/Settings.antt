@@ -13,7 +13,7 @@ use Rattle.paper.specs.declared.Window.{Window}
 use Rattle.paper.specs.declared.Span.{Span}
 use Rattle.paper.specs.declared.View.{View}
 use Rattle.paper.specs.declared.Key.{Key}
-use Rattle.paper.specs.declared.Key.the-variants.{Charset, Codes, Shown, Brightness, Reverse, Speed, Mixing, Width, Write}
+use Rattle.paper.specs.declared.Key.the-variants.{Charset, Codes, Caret, Brightness, Reverse, Speed, Mixing, Width, Write}
 use Rattle.paper.specs.declared.Half.{Half}
 use Rattle.paper.specs.declared.Half.the-variants.{Nothing}
 use Rattle.paper.specs.declared.Hold.{Hold}
@@ -30,7 +30,7 @@ initialStyle = record { reverse = 0; mixing = 0; across = 1; down = 1 }
 
 unfoldable pub initialSettings : Settings
 initialSettings =
-    record { charset = 0; codes = 0; shown = 0; brightness = 8; speed = 0; width = 1; write = 0; style = initialStyle }
+    record { charset = 0; codes = 0; caret = 0; brightness = 8; speed = 0; width = 1; write = 0; style = initialStyle }
 
 -- a cursor at the window's top left, in MD1
 unfoldable pub topLeft : Cursor
@@ -55,89 +55,31 @@ initialState g =
 
 -- ---- a state with one part replaced
 
+-- a state by its parts
+abbrev pub makeState : Settings → List Window → Cursor → ℕ → Hold → Half → List Span → State
+makeState v ws base k h p ps =
+    record { settings = v; windows = ws; base = base; selected = k; hold = h; half = p; spans = ps }
+
 abbrev pub withSettings : State → Settings → State
-withSettings s v =
-    record {
-      settings = v;
-      windows = s .windows;
-      base = s .base;
-      selected = s .selected;
-      hold = s .hold;
-      half = s .half;
-      spans = s .spans;
-    }
+withSettings s v = makeState v (s .windows) (s .base) (s .selected) (s .hold) (s .half) (s .spans)
 
 abbrev pub withWindows : State → List Window → State
-withWindows s ws =
-    record {
-      settings = s .settings;
-      windows = ws;
-      base = s .base;
-      selected = s .selected;
-      hold = s .hold;
-      half = s .half;
-      spans = s .spans;
-    }
+withWindows s ws = makeState (s .settings) ws (s .base) (s .selected) (s .hold) (s .half) (s .spans)
 
 abbrev pub withBase : State → Cursor → State
-withBase s k =
-    record {
-      settings = s .settings;
-      windows = s .windows;
-      base = k;
-      selected = s .selected;
-      hold = s .hold;
-      half = s .half;
-      spans = s .spans;
-    }
+withBase s k = makeState (s .settings) (s .windows) k (s .selected) (s .hold) (s .half) (s .spans)
 
 abbrev pub withSelected : State → ℕ → State
-withSelected s k =
-    record {
-      settings = s .settings;
-      windows = s .windows;
-      base = s .base;
-      selected = k;
-      hold = s .hold;
-      half = s .half;
-      spans = s .spans;
-    }
+withSelected s k = makeState (s .settings) (s .windows) (s .base) k (s .hold) (s .half) (s .spans)
 
 abbrev pub withHold : State → Hold → State
-withHold s h =
-    record {
-      settings = s .settings;
-      windows = s .windows;
-      base = s .base;
-      selected = s .selected;
-      hold = h;
-      half = s .half;
-      spans = s .spans;
-    }
+withHold s h = makeState (s .settings) (s .windows) (s .base) (s .selected) h (s .half) (s .spans)
 
 abbrev pub withHalf : State → Half → State
-withHalf s p =
-    record {
-      settings = s .settings;
-      windows = s .windows;
-      base = s .base;
-      selected = s .selected;
-      hold = s .hold;
-      half = p;
-      spans = s .spans;
-    }
+withHalf s p = makeState (s .settings) (s .windows) (s .base) (s .selected) (s .hold) p (s .spans)
 
 abbrev pub withSpans : State → List Span → State
-withSpans s ps =
-    record {
-      settings = s .settings;
-      windows = s .windows;
-      base = s .base;
-      selected = s .selected;
-      hold = s .hold;
-      half = s .half;
-      spans = ps;
-    }
+withSpans s ps = makeState (s .settings) (s .windows) (s .base) (s .selected) (s .hold) (s .half) ps
 
 -- ---- the settings that one byte gives
 
@@ -146,7 +88,7 @@ withSpans s ps =
 unfoldable pub inDomain : Key → ℕ → Bool
 inDomain Charset n = leb n 13
 inDomain Codes n = leb n 5 || between 16 19 n
-inDomain Shown n = leb n 1
+inDomain Caret n = leb n 1
 inDomain Brightness n = between 1 8 n
 inDomain Reverse n = leb n 1
 inDomain Speed n = leb n 31
@@ -158,108 +100,40 @@ inDomain Write n = leb n 1
 unfoldable pub inEnlargement : ℕ → ℕ → Bool
 inEnlargement x y = between 1 4 x && between 1 2 y
 
-abbrev pub withStyle : Settings → Style → Settings
-withStyle v y =
+-- settings and a style by their parts
+abbrev pub makeSettings : ℕ → ℕ → ℕ → ℕ → ℕ → ℕ → ℕ → Style → Settings
+makeSettings charset codes caret brightness speed width write y =
     record {
-      charset = v .charset;
-      codes = v .codes;
-      shown = v .shown;
-      brightness = v .brightness;
-      speed = v .speed;
-      width = v .width;
-      write = v .write;
+      charset = charset;
+      codes = codes;
+      caret = caret;
+      brightness = brightness;
+      speed = speed;
+      width = width;
+      write = write;
       style = y;
     }
 
+abbrev pub makeStyle : ℕ → ℕ → ℕ → ℕ → Style
+makeStyle reverse mixing across down = record { reverse = reverse; mixing = mixing; across = across; down = down }
+
+abbrev pub withStyle : Settings → Style → Settings
+withStyle v y = makeSettings (v .charset) (v .codes) (v .caret) (v .brightness) (v .speed) (v .width) (v .write) y
+
 abbrev pub enlarged : Settings → ℕ → ℕ → Settings
-enlarged v x y =
-    withStyle v (record { reverse = v .style .reverse; mixing = v .style .mixing; across = x; down = y })
+enlarged v x y = withStyle v (makeStyle (v .style .reverse) (v .style .mixing) x y)
 
 -- one setting changed, all others kept
 unfoldable pub withSetting : Settings → Key → ℕ → Settings
-withSetting v Charset n =
-    record {
-      charset = n;
-      codes = v .codes;
-      shown = v .shown;
-      brightness = v .brightness;
-      speed = v .speed;
-      width = v .width;
-      write = v .write;
-      style = v .style;
-    }
-withSetting v Codes n =
-    record {
-      charset = v .charset;
-      codes = n;
-      shown = v .shown;
-      brightness = v .brightness;
-      speed = v .speed;
-      width = v .width;
-      write = v .write;
-      style = v .style;
-    }
-withSetting v Shown n =
-    record {
-      charset = v .charset;
-      codes = v .codes;
-      shown = n;
-      brightness = v .brightness;
-      speed = v .speed;
-      width = v .width;
-      write = v .write;
-      style = v .style;
-    }
-withSetting v Brightness n =
-    record {
-      charset = v .charset;
-      codes = v .codes;
-      shown = v .shown;
-      brightness = n;
-      speed = v .speed;
-      width = v .width;
-      write = v .write;
-      style = v .style;
-    }
-withSetting v Reverse n =
-    withStyle v
-    (record { reverse = n; mixing = v .style .mixing; across = v .style .across; down = v .style .down })
-withSetting v Speed n =
-    record {
-      charset = v .charset;
-      codes = v .codes;
-      shown = v .shown;
-      brightness = v .brightness;
-      speed = n;
-      width = v .width;
-      write = v .write;
-      style = v .style;
-    }
-withSetting v Mixing n =
-    withStyle v
-    (record { reverse = v .style .reverse; mixing = n; across = v .style .across; down = v .style .down })
-withSetting v Width n =
-    record {
-      charset = v .charset;
-      codes = v .codes;
-      shown = v .shown;
-      brightness = v .brightness;
-      speed = v .speed;
-      width = n;
-      write = v .write;
-      style = v .style;
-    }
-withSetting v Write n =
-    record {
-      charset = v .charset;
-      codes = v .codes;
-      shown = v .shown;
-      brightness = v .brightness;
-      speed = v .speed;
-      width = v .width;
-      write = n;
-      style = v .style;
-    }
+withSetting v Charset n = makeSettings n (v .codes) (v .caret) (v .brightness) (v .speed) (v .width) (v .write) (v .style)
+withSetting v Codes n = makeSettings (v .charset) n (v .caret) (v .brightness) (v .speed) (v .width) (v .write) (v .style)
+withSetting v Caret n = makeSettings (v .charset) (v .codes) n (v .brightness) (v .speed) (v .width) (v .write) (v .style)
+withSetting v Brightness n = makeSettings (v .charset) (v .codes) (v .caret) n (v .speed) (v .width) (v .write) (v .style)
+withSetting v Reverse n = withStyle v (makeStyle n (v .style .mixing) (v .style .across) (v .style .down))
+withSetting v Speed n = makeSettings (v .charset) (v .codes) (v .caret) (v .brightness) n (v .width) (v .write) (v .style)
+withSetting v Mixing n = withStyle v (makeStyle (v .style .reverse) n (v .style .across) (v .style .down))
+withSetting v Width n = makeSettings (v .charset) (v .codes) (v .caret) (v .brightness) (v .speed) n (v .write) (v .style)
+withSetting v Write n = makeSettings (v .charset) (v .codes) (v .caret) (v .brightness) (v .speed) (v .width) n (v .style)
 
 -- ---- windows
 

@@ -6,38 +6,20 @@ use native.Mathlib.Omega.{arith}
 use Rattle.paper.specs.declared.Geometry.{Geometry}
 use Rattle.paper.specs.declared.Fed.{Fed}
 use Rattle.paper.specs.declared.Outcome.{Outcome}
-use Rattle.paper.specs.declared.Outcome.the-variants.{Unfinished, Carried, OutOfDomain, Cancelled, Unknown, NotCarried, WindowHeld, TooLarge, NotDefined}
 use Rattle.paper.specs.Numbers.{carriedBy, answeredBy}
 use Rattle.paper.specs.Carry.{Meaning}
 use Rattle.paper.specs.Calls.{feeding, counted}
-use Rattle.commands.specs.declared.Done.{Done}
-use Rattle.writes.specs.Does.{Does}
+use Rattle.laws_bytes.proofs.Counts.{one-at-most}
+use Rattle.carry_state.specs.declared.Done.{Done}
+use Rattle.carry_dots.specs.Does.{Does}
 use Rattle.turns.specs.Turns.{fed}
 
--- a byte finishes at most one command
+-- a byte adds at most one to either count
 pub carried-one : (o : Outcome) → carriedBy o ≤ 1
-unfolding carriedBy
-carried-one Unfinished = omega arith
-carried-one Carried = omega arith
-carried-one OutOfDomain = omega arith
-carried-one Cancelled = omega arith
-carried-one Unknown = omega arith
-carried-one NotCarried = omega arith
-carried-one WindowHeld = omega arith
-carried-one TooLarge = omega arith
-carried-one NotDefined = omega arith
+carried-one o = omega (arith, one-at-most o)
 
 pub answered-one : (o : Outcome) → answeredBy o ≤ 1
-unfolding answeredBy
-answered-one Unfinished = omega arith
-answered-one Carried = omega arith
-answered-one OutOfDomain = omega arith
-answered-one Cancelled = omega arith
-answered-one Unknown = omega arith
-answered-one NotCarried = omega arith
-answered-one WindowHeld = omega arith
-answered-one TooLarge = omega arith
-answered-one NotDefined = omega arith
+answered-one o = omega (arith, one-at-most o)
 
 -- what a byte did, counted
 pub counted-by : (g : Geometry) (f : Fed) (d : Done) (m m′ : List ℕ) (t : Meaning) (c a : ℕ) → Does g m d m′ t

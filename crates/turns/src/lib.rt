@@ -11,44 +11,9 @@ ghost use mathlib.Core.Bool.{true};
 ghost use Prim.Native.Nat.{_+_, _<_, _≤_};
 ghost use lib.ListN.{length, getD};
 ghost use Rattle.paper.specs.Panel.{fontLength};
-ghost use Rattle.paper.specs.Numbers.{carriedBy, answeredBy};
 ghost use Rattle.paper.specs.Calls.{next};
-ghost use Rattle.writes.specs.Does.{Ready};
+ghost use Rattle.carry_dots.specs.Does.{Ready};
 ghost use Rattle.turns.specs.Turns.{fed, Drawable, Due, Turned};
-
-// What an outcome adds to the commands carried out.
-fn carried_by(o: Outcome) -> usize
-    ensures { λ n. ⌜ n ≡ carriedBy o ⌝ }
-{
-    match o {
-        Outcome::Unfinished => 0,
-        Outcome::Carried => 1,
-        Outcome::OutOfDomain => 0,
-        Outcome::Cancelled => 0,
-        Outcome::Unknown => 0,
-        Outcome::NotCarried => 0,
-        Outcome::WindowHeld => 0,
-        Outcome::TooLarge => 0,
-        Outcome::NotDefined => 0,
-    }
-}
-
-// What an outcome adds to the commands answered 11 to 17.
-fn answered_by(o: Outcome) -> usize
-    ensures { λ n. ⌜ n ≡ answeredBy o ⌝ }
-{
-    match o {
-        Outcome::Unfinished => 0,
-        Outcome::Carried => 0,
-        Outcome::OutOfDomain => 1,
-        Outcome::Cancelled => 1,
-        Outcome::Unknown => 1,
-        Outcome::NotCarried => 1,
-        Outcome::WindowHeld => 1,
-        Outcome::TooLarge => 1,
-        Outcome::NotDefined => 1,
-    }
-}
 
 // One byte more: carried out, and counted.
 fn feed_byte(g: Geometry, mem: &mut [u8], font: &[u8], f: Fed, b: u8) -> Fed
@@ -64,8 +29,8 @@ fn feed_byte(g: Geometry, mem: &mut [u8], font: &[u8], f: Fed, b: u8) -> Fed
     Fed {
         refusal,
         state,
-        carried: f.carried + carried_by(outcome),
-        answered: f.answered + answered_by(outcome),
+        carried: f.carried + numbers::carried_by(outcome),
+        answered: f.answered + numbers::answered_by(outcome),
         outcome,
     }
 }
@@ -96,10 +61,10 @@ fn is_drawn(g: Geometry, s: State, b: u8) -> bool
         return false;
     }
     if is_nothing(half) {
-        let p = writes::pen_of(g, s);
+        let p = carry_dots::spot_of(g, s);
         let v = s.settings;
         let style = v.style;
-        return !commands::is_too_large(p.view, v.width, style);
+        return !carry_state::is_too_large(p.view, v.width, style);
     }
     false
 }
@@ -110,13 +75,13 @@ fn feed_characters(g: Geometry, mem: &mut [u8], font: &[u8], piece: &[u8], f: Fe
     ensures { λ r. ⌜ Turned g (now (font .entry)) f (now (mem .entry)) (now (piece .entry)) i r (now (mem .exit)) ⌝ }
 {
     let s = f.state;
-    let p = writes::pen_of(g, s);
+    let p = carry_dots::spot_of(g, s);
     let v = s.settings;
     let style = v.style;
-    let r = writes::run(g, mem, font, p, v.width, style, piece, i);
+    let r = carry_dots::run(g, mem, font, p, v.width, style, piece, i);
     let at = r.at;
-    let q = r.pen;
-    let state = writes::settle(s, q);
+    let q = r.spot;
+    let state = carry_dots::settle(s, q);
     let refusal = f.refusal;
     let fed = Fed {
         refusal,
@@ -129,7 +94,7 @@ fn feed_characters(g: Geometry, mem: &mut [u8], font: &[u8], piece: &[u8], f: Fe
 }
 
 // An image's byte and those that follow it.
-fn feed_pictures(
+fn feed_image(
     g: Geometry,
     mem: &mut [u8],
     font: &[u8],
@@ -145,11 +110,11 @@ fn feed_pictures(
     ensures { λ r. ⌜ Turned g (now (font .entry)) f (now (mem .entry)) (now (piece .entry)) i r (now (mem .exit)) ⌝ }
 {
     let s = f.state;
-    let p = writes::pen_of(g, s);
+    let p = carry_dots::spot_of(g, s);
     let v = s.settings;
     let refusal = f.refusal;
     let style = v.style;
-    let r = writes::pictures(g, mem, p, style, width, height, column, row, piece, i);
+    let r = carry_dots::image_bytes(g, mem, p, style, width, height, column, row, piece, i);
     let at = r.at;
     let spans = r.spans;
     if r.column == width {
@@ -201,7 +166,7 @@ pub fn feed_some(g: Geometry, mem: &mut [u8], font: &[u8], piece: &[u8], f: Fed,
             height,
             column,
             row,
-        } => { feed_pictures(g, mem, font, piece, f, width, height, column, row, i) }
+        } => { feed_image(g, mem, font, piece, f, width, height, column, row, i) }
         _ => {
             let fed = feed_byte(g, mem, font, f, b);
             Turn { fed, at: i + 1 }

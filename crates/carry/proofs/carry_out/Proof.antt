@@ -3,12 +3,12 @@ use borrow.Author.Needs.{needs}
 use mathlib.Core.Path.{refl}
 use borrow.Author.Tests.{leb-true}
 use Rattle.paper.specs.declared.Command.the-variants.{Uncarried}
-use Rattle.paper.specs.Carry.{notCarried}
-use Rattle.laws.specs.Readings.{commandOk}
-use Rattle.laws.proofs.Tests.{between-facts}
-use Rattle.commands.proofs.Answers.{is-14}
-use Rattle.commands.proofs.Facts.{selected-small}
-use Rattle.writes.proofs.Wrote.{does-answer, does-quiet}
+use Rattle.paper.specs.Carry.{asks}
+use Rattle.laws_bytes.specs.Readings.{commandOk}
+use Rattle.laws_bytes.proofs.Tests.{between-facts}
+use Rattle.carry_state.proofs.Answers.{is-14}
+use Rattle.carry_state.proofs.Facts.{selected-small}
+use Rattle.carry_dots.proofs.Wrote.{does-answer, does-quiet}
 use Rattle.carry.proofs.carry_out.Statement.{statement}
 use Rattle.carry.proofs.carry_out.Tie as tie
 
@@ -197,7 +197,7 @@ returns-15 c = let start = c .before .before .before .before .before .before .be
     rw (c .before .before .c8 .given .1) (does-quiet (c .cancel .ensures (start .args .font .now)))
 
 returns-16 : tie.Need-returns-16
-unfolding notCarried
+unfolding asks
 returns-16 c = let start = c .before .before .before .before .before .before in
     rw (c .before .enum-told8 .given .1)
     (does-answer (c .ends .ensures) (is-14 (start .args .g) (start .args .font .now) (start .args .s) Uncarried refl))

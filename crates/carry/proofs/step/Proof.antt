@@ -1,8 +1,8 @@
 -- `carry::step` meets its contract: a byte is read, and taken. Assumes nothing.
 use borrow.Author.Needs.{needs}
 use Rattle.paper.specs.Carry.{byteMeans}
-use Rattle.laws.proofs.Readings.{reads-ok}
-use Rattle.kept.proofs.Parts.{parts}
+use Rattle.laws_bytes.proofs.Readings.{reads-ok}
+use Rattle.laws_state.proofs.Parts.{parts}
 use Rattle.carry.proofs.step.Statement.{statement}
 use Rattle.carry.proofs.step.Tie as tie
 

@@ -2,8 +2,8 @@
 use borrow.Author.Needs.{needs}
 use native.Mathlib.Omega.{arith}
 use mathlib.Core.Path.{_≡_, refl, ap, _∙_}
-use Rattle.moves.specs.Does.{pen}
-use Rattle.moves.proofs.Done.{pen-at}
+use Rattle.moves.specs.Does.{spot}
+use Rattle.moves.proofs.Done.{spot-at}
 use Rattle.text.proofs.Lines.{room-after, drawn-in-line}
 use Rattle.text.proofs.in_line.Statement.{statement}
 use Rattle.text.proofs.in_line.Tie as tie
@@ -33,7 +33,7 @@ returns c =
     let f = room-after (v .x) (a .c) (v .width) (v .y) (a .l) (v .height) (tested .if1 .taken) in
     drawn-in-line (a .g) (a .p .spans) (a .mem .now) (a .font .now) (a .w) (a .style) (a .code) v
     (rw (start .pre .1 .0) at (f .0)) (rw (start .pre .1 .1) at (f .1))
-    (pen-at (rw (start .pre .1 .0) at (c .to .ensures)))
+    (spot-at (rw (start .pre .1 .0) at (c .to .ensures)))
     (rw (start .pre .1 .0, start .pre .1 .1) at (marking .mark .ensures))
     (rw (start .pre .1 .0, start .pre .1 .1) at (drawing .draw .ensures))
 

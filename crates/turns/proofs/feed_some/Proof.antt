@@ -2,7 +2,7 @@
 use borrow.Author.Needs.{needs}
 use Prim.Native.Nat.{_+_, _<_, _≤_}
 use native.Mathlib.Omega.{arith}
-use Rattle.commands.proofs.Facts.{selected-small}
+use Rattle.carry_state.proofs.Facts.{selected-small}
 use Rattle.turns.specs.Turns.{fed}
 use Rattle.turns.proofs.Turns.{byte-turn}
 use Rattle.turns.proofs.feed_some.Statement.{statement}

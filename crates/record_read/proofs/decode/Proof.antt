@@ -1,0 +1,37 @@
+-- `decode` meets its contract. Assumes nothing.
+use borrow.Author.Needs.{needs}
+use native.Mathlib.Omega.{arith}
+use Rattle.record_read.specs.Record.{decoded}
+use Rattle.record_read.proofs.decode.Statement.{statement}
+use Rattle.record_read.proofs.decode.Tie as tie
+
+pub decode-spec : {M : Type 1} → statement M
+unfolding decoded
+decode-spec =
+    tie.close
+    (tie.spec
+    (λ c κs. search needs)
+    (λ c κs. search needs)
+    (λ c κs. search needs)
+    (λ c κs. search needs)
+    (λ c κs. search needs)
+    (λ c κs. search needs)
+    (λ c κs. search needs)
+    (λ c κs. search needs)
+    (λ c κs. search needs)
+    (λ c κs. search needs)
+    (λ c κs. omega (arith, c .before .before .before .before .before .before .before .before .before .before .before .pre))
+    (λ c. omega (arith, c .before .before .before .before .before .before .before .before .before .before .before .before .before .pre))
+    (λ c. rw (
+      c .before .before .before .before .before .before .before .before .before .before .before .settings-at .ensures,
+      c .before .before .before .before .before .before .before .before .before .before .window-from .ensures,
+      c .before .before .before .before .before .before .before .before .before .window-from2 .ensures,
+      c .before .before .before .before .before .before .before .before .window-from3 .ensures,
+      c .before .before .before .before .before .before .before .window-from4 .ensures,
+      c .before .before .before .before .before .before .cursor-at .ensures,
+      c .before .before .before .before .before .hold-at .ensures,
+      c .before .before .before .half-of .ensures,
+      c .before .before .before .before .slots-at .ensures,
+      c .before .before .span-at .ensures,
+      c .before .span-at2 .ensures,
+    )))
