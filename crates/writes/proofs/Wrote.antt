@@ -128,10 +128,6 @@ does-erase {g} {m} s c k i f h =
       mem = c ∙ sym (ap (λ (x : Meaning). applyAll g m (x .strokes)) h);
     }
 
--- a place that passes the test lies in the range
-pub inside-facts : (x w y h : ℕ) → (ltb x w && ltb y h) ≡ true → (x < w) × (y < h)
-inside-facts x w y h t = let f = both-of (ltb x w) (ltb y h) t in (ltb-true x w (f .0), ltb-true y h (f .1))
-
 module _ (g : Geometry) (p : Pen) (y : Style) (column row b : ℕ) (m : List ℕ) where
   -- an image byte inside the range is stored
   pub pictured-in : {m′ : List ℕ} {ps : List Span} → (ltb (p .view .x + column) (p .view .width) && ltb (p .view .y + row) (p .view .height)) ≡ true

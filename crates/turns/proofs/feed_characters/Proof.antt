@@ -5,7 +5,7 @@ use Rattle.paper.specs.Settings.{viewOf}
 use Rattle.commands.proofs.Facts.{selected-small}
 use Rattle.kept.proofs.Parts.{parts}
 use Rattle.kept.proofs.Views.{view-room}
-use Rattle.writes.specs.Runs.{under}
+use Rattle.runs.specs.Runs.{under}
 use Rattle.writes.proofs.Inks.{inks}
 use Rattle.turns.proofs.Turns.{characters-turn, settles-within}
 use Rattle.turns.proofs.feed_characters.Statement.{statement}

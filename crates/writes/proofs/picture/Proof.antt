@@ -2,7 +2,8 @@
 use borrow.Author.Needs.{needs}
 use Prim.Native.Nat.{_+_}
 use native.Mathlib.Omega.{arith}
-use Rattle.writes.proofs.Wrote.{inside-facts, pictured-in, pictured-out}
+use Rattle.runs.proofs.Rows.{inside-facts}
+use Rattle.writes.proofs.Wrote.{pictured-in, pictured-out}
 use Rattle.writes.proofs.picture.Statement.{statement}
 use Rattle.writes.proofs.picture.Tie as tie
 
