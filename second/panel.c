@@ -712,7 +712,7 @@ static enum reading read_byte(second_half *h, uint8_t byte)
 
 /* "Initial: w = 1, enlargement 1 by 1, brightness 8, all other settings 0,
  * MD1, base window, cursor (0,0), no user window." */
-void second_initial(second_state *state)
+static void second_initial(second_state *state)
 {
     memset(state, 0, sizeof *state);
     state->settings.w = 1;
@@ -1456,66 +1456,4 @@ unsigned second_refresh(second_state *state, const uint8_t *memory,
     for (unsigned row = 0; row < SECOND_ROWS; row++)
         *moved += refresh_row(&state->spans[row], row, memory, glass);
     return SECOND_NOT_REFUSED;
-}
-
-/* ------------------------------------------------------------------------
- * States made by others
- * --------------------------------------------------------------------- */
-
-/* The record nearest to the half-read command `h` followed by a byte that
- * ended or cancelled it, as if it had been read on: number 8 refuses it. */
-static void read_past(second_half *h, uint8_t byte)
-{
-    switch (h->phase) {
-    case PHASE_PARAMETERS: /* no byte is awaited any more */
-        h->got = parameter_bytes[h->command];
-        break;
-    case PHASE_DOWNLOAD_C1: /* a code below 20h */
-        h->code = byte;
-        h->phase = PHASE_DOWNLOAD_C2;
-        break;
-    case PHASE_DOWNLOAD_C2: /* a last code below the first */
-        h->last = byte;
-        h->phase = PHASE_DOWNLOAD_X;
-        break;
-    case PHASE_DOWNLOAD_X:
-    case PHASE_DOWNLOAD_DATA: /* no byte of the code is awaited */
-        h->left = 0;
-        h->phase = PHASE_DOWNLOAD_DATA;
-        break;
-    case PHASE_WINDOW_A: /* a window that is not 1 to 4 */
-        h->window = byte;
-        h->phase = PHASE_WINDOW_B;
-        break;
-    case PHASE_IMAGE_XH: /* a width that is not 1 to 512 */
-        h->width = (uint16_t)(h->width + 256u * byte);
-        h->phase = PHASE_IMAGE_YL;
-        break;
-    case PHASE_IMAGE_YH: /* a height that is not 1 or 2 */
-        h->height = (uint16_t)(h->height + 256u * byte);
-        h->phase = PHASE_IMAGE_G;
-        break;
-    case PHASE_IMAGE_G:
-    case PHASE_IMAGE_DATA: /* a byte right of the image is awaited */
-        h->column = h->width;
-        h->row = 0;
-        h->phase = PHASE_IMAGE_DATA;
-        break;
-    default: /* nothing is near */
-        h->phase = PHASES;
-        break;
-    }
-}
-
-void second_half_of(second_half *half, const uint8_t *bytes, size_t length)
-{
-    memset(half, 0, sizeof *half);
-    for (size_t i = 0; i < length; i++) {
-        second_half before = *half;
-        if (read_byte(half, bytes[i]) != READ_ON) {
-            *half = before;
-            read_past(half, bytes[i]);
-            return;
-        }
-    }
 }

@@ -134,13 +134,4 @@ unsigned second_refresh(second_state *state, const uint8_t *memory,
                         size_t memory_length, uint8_t *glass,
                         size_t glass_length, size_t *moved);
 
-/* Not calls of this paper; for whoever wants to make states of his own. */
-
-/* "Initial", with both spans empty. */
-void second_initial(second_state *state);
-
-/* The half-read command that these bytes are. Where they are not a proper
- * beginning of a command, a record near them that number 8 refuses. */
-void second_half_of(second_half *half, const uint8_t *bytes, size_t length);
-
 #endif

@@ -1,6 +1,6 @@
 -- THE THREE DEMANDS, for the 112 by 16 module and for every input. What each says stands in specs/Demands, sentence by sentence;
 -- the calls of crates/panel are proved to be the five definitions named here. Assumes nothing.
-use mathlib.Core.Path.{_≡_}
+use mathlib.Core.Path.{_≡_, refl, sym, ap, subst, subst₂, _∙_}
 use mathlib.Core.Bool.{true}
 use mathlib.Core.List.{List, [], _∷_, _++_}
 use Prim.Native.Nat.{ℕ, _≤_}
@@ -15,19 +15,21 @@ use Rattle.paper.specs.Reading.{readOf}
 use Rattle.paper.specs.Settings.{initialState, withHalf}
 use Rattle.paper.specs.Bounds.{accepted}
 use Rattle.paper.specs.Carry.{byteMeans}
-use Rattle.paper.specs.Calls.{started, feedCall, holdCall, refreshCall}
+use Rattle.paper.specs.Calls.{started, startCall, feedCall, holdCall, refreshCall}
+use Rattle.marked.specs.Marked.{windowOne}
 use Rattle.kept.specs.Sized.{Sized}
 use Rattle.kept.proofs.Views.{panel-usable}
-use Rattle.kept.proofs.Sized.{initial-sized}
+use Rattle.kept.proofs.Sized.{initial-sized, start-sized}
 use Rattle.kept.proofs.Refusals.{feed-taken}
 use Rattle.stroke_laws.specs.Synced.{Synced}
 use Rattle.stroke_laws.proofs.Glass.{erased-synced}
 use Rattle.demands.specs.Events.{Event, refresh, joined, play}
-use Rattle.demands.specs.Demands.{StartAnswers, FeedAnswers, holdNumber, HoldAnswers, ReleaseAnswers, RefreshAnswers, ByteFed, ByteAnswers, OnlyAnswered, PieceFed, InStep, Served}
+use Rattle.demands.specs.Demands.{StartAnswers, FeedAnswers, holdNumber, HoldAnswers, ReleaseAnswers, RefreshAnswers, ByteFed, ByteAnswers, OnlyAnswered, PieceFed, InStep, Served, windowFed, windowHeld, BegunInStep, someFont, someMemory, someGlass}
 use Rattle.demands.proofs.Calls.{start-answers, feed-answers, hold-answers, release-answers, refresh-answers}
 use Rattle.demands.proofs.Outcomes.{byte-answers}
 use Rattle.demands.proofs.Feeds.{byte-fed, byte-answered, piece-fed}
 use Rattle.demands.proofs.Events.{served, feed-in-step, holds-in-step}
+use Rattle.demands.proofs.Begun.{holdable, as-initial, starts, window-state, window-memory}
 
 -- ==== DEMAND 1: every input gets exactly one answer, given exactly when its row says; a refusal changes nothing
 
@@ -74,7 +76,7 @@ module _ (font : List ℕ) (s : State) where
 
 pub demand-3 : (font : List ℕ) (k back : ℕ) (v : Settings) (s : State) (m glass : List ℕ) → InStep panel font k back v s m glass
     → (events : List Event)
-    → Served panel font k back v s m events (play panel font s m glass events) (feedCall panel font s m (joined events))
+    → Served panel font k back v s m glass events (play panel font s m glass events) (feedCall panel font s m (joined events))
     (play panel font s m glass (events ++ refresh ∷ []))
 demand-3 = served panel panel-usable
 
@@ -98,3 +100,25 @@ pub demand-3-hold : (font : List ℕ) (s : State) (k : ℕ) (m glass : List ℕ)
     InStep panel font k (s .selected) (s .settings) (r .answer .state) m (r .glass)
 unfolding panel
 demand-3-hold = holds-in-step panel panel-usable
+
+-- so a panel that is started, fed a define, held and refreshed is in step, whatever is lent
+pub demand-3-begun : (font m glass : List ℕ) → length font ≡ 1120 → length m ≡ 1024 → length glass ≡ 224
+    → BegunInStep font m glass
+demand-3-begun font m glass fonts memory size =
+    let a = startCall panel m in
+    let f = windowFed font m in
+    let e = window-state font m fonts memory in
+    let begun =
+    subst (λ (t : State). Synced panel (a .mem) glass (t .spans)) (sym (starts m memory .0)) (demand-3-start (a .mem) glass) in
+    let synced = demand-3-feed font (a .answer .state) (a .mem) glass windowOne (start-sized panel m) begun in
+    subst₂
+    (λ (back : ℕ) (v : Settings).
+    let r = windowHeld font m glass in InStep panel font 1 back v (r .answer .state) (f .mem) (r .glass))
+    (ap (λ (t : State). t .selected) e ∙ as-initial font .0)
+    (ap (λ (t : State). t .settings) e ∙ as-initial font .1)
+    (demand-3-hold font (f .answer .state) 1 (f .mem) glass fonts (window-memory font m fonts memory) size synced
+    (ap (λ (t : State). holdNumber panel t 1) e ∙ holdable font))
+
+-- with nothing assumed
+pub demand-3-met : BegunInStep someFont someMemory someGlass
+demand-3-met = demand-3-begun someFont someMemory someGlass refl refl refl

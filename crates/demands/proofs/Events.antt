@@ -3,7 +3,7 @@ use mathlib.Core.Path.{_≡_, refl, sym, ap, subst, subst₂, _∙_}
 use mathlib.Core.Bool.{true}
 use mathlib.Core.List.{List, [], _∷_, _++_}
 use Prim.Native.Nat.{ℕ, zero, suc, _+_, _≤_}
-use native.Mathlib.Nat.{mul-le-mul-left}
+use native.Mathlib.Nat.{add-assoc, zero-add, mul-le-mul-left}
 use native.Mathlib.Omega.{arith}
 use lib.ListN.{length, getD, replicate, length-replicate}
 use lib.Seq.{length-take-le, getD-take}
@@ -32,14 +32,26 @@ use Rattle.kept.proofs.Pieces.{pieces-joined}
 use Rattle.kept.proofs.Held.{feed-guest, feed-outside}
 use Rattle.dots.proofs.Spans.{marks-append, marks-length}
 use Rattle.dots.proofs.Strokes.{apply-length}
-use Rattle.dots.proofs.Glass.{covered, covered-test, refreshed-length, refreshed-out, shown-most}
+use Rattle.dots.proofs.Glass.{covered, covered-facts, covered-test, refreshed-length, refreshed-in, refreshed-out, shown-most}
 use Rattle.dots.proofs.Tests.{not-both}
 use Rattle.stroke_laws.specs.Synced.{Synced}
 use Rattle.stroke_laws.proofs.Glass.{strokes-synced, refreshed-shows, refreshed-synced}
-use Rattle.demands.specs.Events.{Event, piece, refresh, joined, Play, play, onwards, strokesOf, noSpans, spansSince, owed, visible}
-use Rattle.demands.specs.Demands.{holdNumber, InStep, Served}
+use Rattle.demands.specs.Events.{Event, piece, refresh, joined, Play, resting, fedThen, refreshedThen, followed, play, onwards, strokesOf, noSpans, spansSince, owed, visible}
+use Rattle.demands.specs.Demands.{holdNumber, InStep, RefreshedAt, Served}
 use Rattle.demands.proofs.Calls.{hold-answers}
 use Rattle.demands.proofs.Unseen.{run-same, run-state, run-mem, run-spans}
+use Rattle.demands.proofs.Counts.{spanned-shown}
+
+-- ---- a play that goes on from another
+
+module _ {S A : Type 0} where
+  -- nothing before it
+  pub rested : (s : S) (m glass : List ℕ) (p : Play S A) → p ≡ followed (resting s m glass) p
+  rested s m glass p = rw (zero-add (p .carried), zero-add (p .answered))
+
+  -- a feed before both
+  pub fed-first : (r : A) (c n : ℕ) (p q : Play S A) → fedThen r c n (followed p q) ≡ followed (fedThen r c n p) q
+  fed-first r c n p q = rw (add-assoc c (p .carried) (q .carried), add-assoc n (p .answered) (q .answered))
 
 -- ---- refreshes
 
@@ -55,15 +67,28 @@ module _ (g : Geometry) where
   span-count since = marks-length (noSpans g) since ∙ length-replicate (g .rows) noSpan
 
   module _ (font : List ℕ) where
-    -- one more refresh
-    last-refresh : (events : List Event) (s : State) (m glass : List ℕ)
-        → let p = play g font s m glass events in
-        play g font s m glass (events ++ refresh ∷ []) .glass ≡ refreshCall g (p .state) (p .mem) (p .glass) .glass
-    last-refresh [] s m glass = refl
-    last-refresh (piece bs ∷ es) s m glass =
-        let f = feedCall g font s m bs in last-refresh es (f .answer .state) (f .mem) glass
-    last-refresh (refresh ∷ es) s m glass =
-        let r = refreshCall g s m glass in last-refresh es (r .answer .state) m (r .glass)
+    -- A LONGER PLAY PASSES THROUGH ITS BEGINNING
+    pub passes : (a b : List Event) (s : State) (m glass : List ℕ)
+        → let p = play g font s m glass a in
+        play g font s m glass (a ++ b) ≡ followed p (play g font (p .state) (p .mem) (p .glass) b)
+    passes [] b s m glass = rested s m glass (play g font s m glass b)
+    passes (piece bs ∷ a) b s m glass =
+        let f = feedCall g font s m bs in
+        let p = play g font (f .answer .state) (f .mem) glass a in
+        ap (fedThen (f .answer .refusal) (f .answer .carried) (f .answer .answered))
+        (passes a b (f .answer .state) (f .mem) glass)
+        ∙ fed-first (f .answer .refusal) (f .answer .carried) (f .answer .answered) p
+        (play g font (p .state) (p .mem) (p .glass) b)
+    passes (refresh ∷ a) b s m glass =
+        let r = refreshCall g s m glass in
+        ap (refreshedThen (r .answer .refusal) (r .answer .moved)) (passes a b (r .answer .state) m (r .glass))
+
+    -- as many spans as rows, after any events
+    since-count : (events : List Event) (q : State) (since : List Stroke)
+        → length (spansSince g font q since events) ≡ g .rows
+    since-count [] q since = span-count since
+    since-count (piece bs ∷ es) q since = since-count es (onwards g font q bs) (since ++ strokesOf g font q bs)
+    since-count (refresh ∷ es) q since = since-count es q []
 
     -- no refresh owes more than the glass has
     owed-most : (events : List Event) (q : State) (since : List Stroke) (i : ℕ)
@@ -105,9 +130,9 @@ called g q since = withSpans q (markAll (noSpans g) since)
 
 -- what stands after the events: p as the calls have it, one as the joined bytes have it from state q, `since` being what was
 -- written between the last refresh and the first event
-record Serves (g : Geometry) (font : List ℕ) (q : State) (since : List Stroke) (events : List Event) (p : Play) (one : Feeding)
+record Serves (g : Geometry) (font : List ℕ) (q : State) (since : List Stroke) (events : List Event) (p : Play State Refusal) (one : Feeding)
     : Type 0 where
-  refusals : p .refusals ≡ replicate (length events) Accepted
+  refusals : p .answers ≡ replicate (length events) Accepted
   mem : p .mem ≡ one .mem
   carried : p .carried ≡ one .answer .carried
   answered : p .answered ≡ one .answer .answered
@@ -241,21 +266,55 @@ module _ (g : Geometry) (u : Usable g) (font : List ℕ) (k back : ℕ) (v : Set
       (serves g u font (i .fonts) events s [] m glass (i .memory) size h (subst (λ (t : State). accepted g t ≡ true) empty h)
       (shows-synced g m glass (noSpans g) (i .shows)))
 
-  -- one more refresh copies what was written since the last one
-  last-glass : let p = play g font s m glass events in
-      play g font s m glass (events ++ refresh ∷ []) .glass ≡ refreshed g (p .mem) since (p .glass)
-  last-glass =
+  -- a refresh after the events is not refused, and copies what was written since the one before
+  next-refresh : let p = play g font s m glass events in
+      refreshCall g (p .state) (p .mem) (p .glass)
+      ≡ refreshing Accepted (emptied g (p .state)) (shownAll g since) (refreshed g (p .mem) since (p .glass))
+  next-refresh =
       let a = begun in
       let p = play g font s m glass events in
-      last-refresh g font events s m glass
-      ∙ ap (λ (r : Refreshing). r .glass) (refresh-runs g (p .state) (p .mem) (p .glass) (a .memory) (a .size) (a .accepts))
-      ∙ ap (λ (t : State). refreshed g (p .mem) (t .spans) (p .glass)) (a .state)
+      refresh-runs g (p .state) (p .mem) (p .glass) (a .memory) (a .size) (a .accepts)
+      ∙ ap
+      (λ (t : State).
+      refreshing Accepted (emptied g (p .state)) (shownAll g (t .spans)) (refreshed g (p .mem) (t .spans) (p .glass)))
+      (a .state)
 
-  pub served : Served g font k back v s m events (play g font s m glass events) one
-      (play g font s m glass (events ++ refresh ∷ []))
-  served =
-      let a = begun in
+  -- such a refresh, with any events after it
+  refreshed-at : (after : List Event)
+      → let p = play g font s m glass events in
+      let r = refreshCall g (p .state) (p .mem) (p .glass) in
+      RefreshedAt g since p (r .answer .refusal) (r .answer .moved) (r .glass)
+      (play g font (r .answer .state) (p .mem) (r .glass) after)
+      (play g font s m glass (events ++ refresh ∷ after))
+  refreshed-at after =
       let p = play g font s m glass events in
+      let size = begun .size in
+      record {
+        place = passes g font events (refresh ∷ after) s m glass;
+        only =
+            rw next-refresh
+            (record {
+              size = refreshed-length g (p .mem) since (p .glass);
+              copied = λ n l held. refreshed-in g (p .mem) since (p .glass) n (omega arith) (covered-facts g since n (rw held tt));
+              kept = λ n l out.
+                  refreshed-out g (p .mem) since (p .glass) n (omega arith)
+                  (λ c. not-both (covered g since n) out (covered-test g since n c));
+            });
+        number =
+            ap (λ (r : Refreshing). r .answer .moved) next-refresh
+            ∙ sym (spanned-shown g since (since-count g font events s []));
+        sum = ap (λ (r : Refreshing). r .answer .moved) next-refresh;
+      }
+
+module _ (g : Geometry) (u : Usable g) (font : List ℕ) (k back : ℕ) (v : Settings) (s : State) (m glass : List ℕ)
+    (i : InStep g font k back v s m glass) where
+  pub served : (events : List Event)
+      → Served g font k back v s m glass events (play g font s m glass events) (feedCall g font s m (joined events))
+      (play g font s m glass (events ++ refresh ∷ []))
+  served events =
+      let a = begun g u font k back v s m glass i events in
+      let p = play g font s m glass events in
+      let since = spansSince g font s [] events in
       record {
         refusals = a .refusals;
         mem = a .mem;
@@ -266,16 +325,14 @@ module _ (g : Geometry) (u : Usable g) (font : List ℕ) (k back : ℕ) (v : Set
             subst (OnlyInside g k s m) (sym (a .mem)) (feed-outside g u font k back v s m (joined events) (i .holding .held));
         guest =
             subst (Guest k back v s) (sym (a .state))
-            (guest-spans k back v s (one .answer .state) since (feed-guest g u font k back v s m (joined events) (i .holding)));
+            (guest-spans k back v s _ since (feed-guest g u font k back v s m (joined events) (i .holding)));
         shows =
-            last-glass
+            ap (λ (q : Play State Refusal). q .glass) (passes g font events (refresh ∷ []) s m glass)
+            ∙ ap (λ (r : Refreshing). r .glass) (next-refresh g u font k back v s m glass i events)
             ∙ refreshed-shows g (p .mem) (p .glass) since (a .size) (a .synced) (glass-fits g u (p .mem) (a .memory));
+        each = λ before after e. rw e (refreshed-at g u font k back v s m glass i before after);
         moved = a .moved;
         most = λ n. rw (a .moved) (owed-most g font events s [] n);
-        only = λ n l out.
-            ap (λ (q : List ℕ). getD q n 0) last-glass
-            ∙ refreshed-out g (p .mem) since (p .glass) n (omega (arith, a .size))
-            (λ c. not-both (covered g since n) out (covered-test g since n c));
       }
 
 -- ---- how it is begun

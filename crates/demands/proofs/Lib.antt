@@ -3,5 +3,8 @@ pub mod Calls
 pub mod Outcomes
 pub mod Feeds
 pub mod Unseen
+pub mod Counts
 pub mod Events
+pub mod Begun
 pub mod Demands
+pub mod Premises

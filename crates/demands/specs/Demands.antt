@@ -1,30 +1,33 @@
 -- The three demands on the five calls, sentence by sentence. proofs/Demands shows each of them. Assumes nothing.
 use mathlib.Core.Path.{_≡_}
 use mathlib.Core.Logic.{_↔_, _≢_, _⊎_}
-use mathlib.Core.Bool.{Bool, true, false, _&&_, _||_}
-use mathlib.Core.List.{List, [], _∷_}
-use Prim.Native.Nat.{ℕ, _+_, _<_, _≤_}
+use mathlib.Core.Bool.{Bool, true, false, cond, _&&_, _||_}
+use mathlib.Core.List.{List, [], _∷_, _++_}
+use Prim.Native.Nat.{ℕ, zero, suc, _+_, _<_, _≤_}
 use lib.Dec.{eqb}
 use lib.ListN.{length, getD, replicate}
 use Rattle.paper.specs.declared.Geometry.{Geometry}
 use Rattle.paper.specs.declared.Settings.{Settings}
+use Rattle.paper.specs.declared.Span.{Span}
 use Rattle.paper.specs.declared.Half.the-variants.{Nothing}
 use Rattle.paper.specs.declared.Command.{Command}
 use Rattle.paper.specs.declared.Reading.{Reading}
 use Rattle.paper.specs.declared.Reading.the-variants.{More, Whole, Picture, PictureEnd, Cancels, UnknownCode}
+use Rattle.paper.specs.declared.Refusal.{Refusal}
 use Rattle.paper.specs.declared.Refusal.the-variants.{Accepted}
 use Rattle.paper.specs.declared.State.{State}
-use Rattle.paper.specs.Panel.{memoryLength, glassLength, fontLength, columnOf, rowOf}
+use Rattle.paper.specs.Panel.{panel, memoryLength, glassLength, fontLength, columnOf, rowOf}
 use Rattle.paper.specs.Strokes.{noSpan, spanHolds, applyAll, refreshed, shownAll}
 use Rattle.paper.specs.Numbers.{refusalNumber, outcomeNumber, carriedBy, answeredBy}
 use Rattle.paper.specs.Reading.{between}
-use Rattle.paper.specs.Settings.{initialState, withHalf, withSpans, windowAt, isDefined}
+use Rattle.paper.specs.Settings.{initialSettings, initialState, withHalf, withSpans, windowAt, isDefined}
 use Rattle.paper.specs.Bounds.{accepted}
 use Rattle.paper.specs.Cells.{eraseStroke}
 use Rattle.paper.specs.Carry.{notCarried, isHeld, ownersOnly, outOfDomain, notDefined, cellExceeds, Meaning}
-use Rattle.paper.specs.Calls.{Feeding, feeding, settled, run, fedNothing, started, startCall, feedCall, heldBy, holdCall, released, releaseCall, emptied, refreshCall}
+use Rattle.paper.specs.Calls.{Feeding, feeding, settled, run, fedNothing, started, startCall, feedCall, heldBy, holdCall, released, releaseCall, emptied, Refreshing, refreshCall}
+use Rattle.marked.specs.Marked.{windowOne}
 use Rattle.kept.specs.Guest.{Holding, Guest, OnlyInside}
-use Rattle.demands.specs.Events.{Event, Play, noSpans, spansSince, owed, visible}
+use Rattle.demands.specs.Events.{Event, refresh, Play, refreshedThen, followed, play, noSpans, spansSince, owed, visible}
 
 -- ==== DEMAND 1. "Any bytes, buffers and state record may be handed in. Each call answers or refuses by document 01's numbers,
 -- in its order. A refused call changes no lent byte and hands the state back unchanged."
@@ -263,12 +266,39 @@ pub record InStep (g : Geometry) (font : List ℕ) (k back : ℕ) (v : Settings)
   pub memory : length m ≡ memoryLength g
   pub fonts : length font ≡ fontLength
 
+-- the span of an address's row holds its column
+abbrev pub inSpans : Geometry → List Span → ℕ → Bool
+inSpans g ps a = spanHolds (getD ps (rowOf g a) noSpan) (columnOf g a)
+
+-- how many of the addresses below n are in the spans
+abbrev pub spannedBelow : Geometry → List Span → ℕ → ℕ
+spannedBelow g ps zero = 0
+spannedBelow g ps (suc a) = spannedBelow g ps a + cond (inSpans g ps a) 1 0
+
+-- from glass `was` came glass `is`: "Refresh copies each span's visible columns, changes no other glass byte"
+pub record CopiedOnly (g : Geometry) (ps : List Span) (m was is : List ℕ) : Type 0 where
+  pub size : length is ≡ length was
+  pub copied : (a : ℕ) → a < glassLength g → inSpans g ps a ≡ true → getD is a 0 ≡ getD m a 0
+  pub kept : (a : ℕ) → a < glassLength g → inSpans g ps a ≡ false → getD is a 0 ≡ getD was a 0
+
+-- a refresh of a whole play, which answered r, moved n bytes and left this glass: b is the play before it and rest the play after
+-- it, and ps are the spans written since the refresh before it
+pub record RefreshedAt {S A : Type 0} (g : Geometry) (ps : List Span) (b : Play S A) (r : A) (n : ℕ) (glass : List ℕ)
+    (rest whole : Play S A) : Type 0 where
+  -- this is its place
+  pub place : whole ≡ followed b (refreshedThen r n rest)
+  -- "each refresh moved only the spans written since the one before"
+  pub only : CopiedOnly g ps (b .mem) (b .glass) glass
+  -- "and reports the number of bytes moved, which is the sum of the visible span lengths": both
+  pub number : n ≡ spannedBelow g ps (glassLength g)
+  pub sum : n ≡ shownAll g ps
+
 -- p is what the pieces and refreshes come to, one is what the joined bytes come to, fed at once, and last is p with one more
 -- refresh
-pub record Served (g : Geometry) (font : List ℕ) (k back : ℕ) (v : Settings) (s : State) (m : List ℕ) (events : List Event)
-    (p : Play) (one : Feeding) (last : Play) : Type 0 where
+pub record Served (g : Geometry) (font : List ℕ) (k back : ℕ) (v : Settings) (s : State) (m glass : List ℕ)
+    (events : List Event) (p : Play State Refusal) (one : Feeding) (last : Play State Refusal) : Type 0 where
   -- no call is refused
-  pub refusals : p .refusals ≡ replicate (length events) Accepted
+  pub refusals : p .answers ≡ replicate (length events) Accepted
   -- "what document 01 gives for the joined bytes": memory, the summed counts, and the state: cursors, settings, windows, hold
   -- and what is half read; its spans hold what was written since the last refresh
   pub mem : p .mem ≡ one .mem
@@ -281,10 +311,36 @@ pub record Served (g : Geometry) (font : List ℕ) (k back : ℕ) (v : Settings)
   pub guest : Guest k back v s (p .state)
   -- "after a last refresh the glass equals the visible memory"
   pub shows : last .glass ≡ visible g (p .mem)
-  -- "each refresh moved only the spans written since the one before": as many bytes as these have, "224 at most"
+  -- "each refresh moved only the spans written since the one before", wherever it stands among the events
+  pub each : (before after : List Event) → events ≡ before ++ refresh ∷ after
+      → let b = play g font s m glass before in
+      let r = refreshCall g (b .state) (b .mem) (b .glass) in
+      RefreshedAt g (spansSince g font s [] before) b (r .answer .refusal) (r .answer .moved) (r .glass)
+      (play g font (r .answer .state) (b .mem) (r .glass) after) p
+  -- as many bytes as these have, "224 at most"
   pub moved : p .moved ≡ owed g font s [] events
   pub most : (i : ℕ) → getD (p .moved) i 0 ≤ glassLength g
-  -- and no other byte of the glass
-  pub only : (a : ℕ) → a < glassLength g
-      → spanHolds (getD (spansSince g font s [] events) (rowOf g a) noSpan) (columnOf g a) ≡ false
-      → getD (last .glass) a 0 ≡ getD (p .glass) a 0
+
+-- ---- one panel that is begun with: started, fed the define of marked case 11, its window held, and refreshed
+
+abbrev pub windowFed : (font m : List ℕ) → Feeding
+windowFed font m = let a = startCall panel m in feedCall panel font (a .answer .state) (a .mem) windowOne
+
+abbrev pub windowHeld : (font m glass : List ℕ) → Refreshing
+windowHeld font m glass =
+    let f = windowFed font m in refreshCall panel (holdCall panel (f .answer .state) 1 .state) (f .mem) glass
+
+abbrev pub BegunInStep : (font m glass : List ℕ) → Type 0
+BegunInStep font m glass =
+    let r = windowHeld font m glass in
+    InStep panel font 1 0 initialSettings (r .answer .state) (windowFed font m .mem) (r .glass)
+
+-- lent to it
+abbrev pub someFont : List ℕ
+someFont = replicate 1120 0
+
+abbrev pub someMemory : List ℕ
+someMemory = replicate 1024 0x3C
+
+abbrev pub someGlass : List ℕ
+someGlass = replicate 224 0xC3

@@ -10,7 +10,7 @@ use Rattle.paper.specs.declared.State.{State}
 use Rattle.paper.specs.Panel.{glassLength}
 use Rattle.paper.specs.Strokes.{Stroke, noSpan, markAll, shownAll}
 use Rattle.paper.specs.Carry.{byteMeans}
-use Rattle.paper.specs.Calls.{Feeding, Refreshing, settled, feedCall, refreshCall}
+use Rattle.paper.specs.Calls.{settled, feedCall, refreshCall}
 
 -- "any bytes, cut anywhere, with refreshes anywhere between"
 pub data Event : Type 0 where
@@ -23,56 +23,72 @@ joined [] = []
 joined (piece bs ∷ es) = bs ++ joined es
 joined (refresh ∷ es) = joined es
 
--- ---- what the calls make of it
+-- ---- what calls in a row come to, S being how a state is held and A what a call answers
 
 -- state, memory and glass at the end, the counts summed, what each refresh moved and what each call answered, in their order
-pub record Play : Type 0 where
-  pub state : State
+pub record Play (S A : Type 0) : Type 0 where
+  pub state : S
   pub mem : List ℕ
   pub glass : List ℕ
   pub carried : ℕ
   pub answered : ℕ
   pub moved : List ℕ
-  pub refusals : List Refusal
+  pub answers : List A
 
--- nothing is done
-abbrev pub resting : State → List ℕ → List ℕ → Play
-resting s m glass =
-    record { state = s; mem = m; glass = glass; carried = 0; answered = 0; moved = []; refusals = [] }
+module _ {S A : Type 0} where
+  -- nothing is done
+  abbrev pub resting : S → List ℕ → List ℕ → Play S A
+  resting s m glass =
+      record { state = s; mem = m; glass = glass; carried = 0; answered = 0; moved = []; answers = [] }
 
--- a feed, and what came after it
-abbrev pub fedThen : Feeding → Play → Play
-fedThen f p =
-    record {
-      state = p .state;
-      mem = p .mem;
-      glass = p .glass;
-      carried = f .answer .carried + p .carried;
-      answered = f .answer .answered + p .answered;
-      moved = p .moved;
-      refusals = f .answer .refusal ∷ p .refusals;
-    }
+  -- a feed that answered r with counts c and n, and what came after it
+  abbrev pub fedThen : A → ℕ → ℕ → Play S A → Play S A
+  fedThen r c n p =
+      record {
+        state = p .state;
+        mem = p .mem;
+        glass = p .glass;
+        carried = c + p .carried;
+        answered = n + p .answered;
+        moved = p .moved;
+        answers = r ∷ p .answers;
+      }
 
--- a refresh, and what came after it
-abbrev pub refreshedThen : Refreshing → Play → Play
-refreshedThen r p =
-    record {
-      state = p .state;
-      mem = p .mem;
-      glass = p .glass;
-      carried = p .carried;
-      answered = p .answered;
-      moved = r .answer .moved ∷ p .moved;
-      refusals = r .answer .refusal ∷ p .refusals;
-    }
+  -- a refresh that answered r and moved n bytes, and what came after it
+  abbrev pub refreshedThen : A → ℕ → Play S A → Play S A
+  refreshedThen r n p =
+      record {
+        state = p .state;
+        mem = p .mem;
+        glass = p .glass;
+        carried = p .carried;
+        answered = p .answered;
+        moved = n ∷ p .moved;
+        answers = r ∷ p .answers;
+      }
+
+  -- a play, and another that went on from its end
+  abbrev pub followed : Play S A → Play S A → Play S A
+  followed p q =
+      record {
+        state = q .state;
+        mem = q .mem;
+        glass = q .glass;
+        carried = p .carried + q .carried;
+        answered = p .answered + q .answered;
+        moved = p .moved ++ q .moved;
+        answers = p .answers ++ q .answers;
+      }
 
 -- each piece is fed and each refresh made, on what the one before left
-abbrev pub play : Geometry → List ℕ → State → List ℕ → List ℕ → List Event → Play
+abbrev pub play : Geometry → List ℕ → State → List ℕ → List ℕ → List Event → Play State Refusal
 play g font s m glass [] = resting s m glass
 play g font s m glass (piece bs ∷ es) =
-    let f = feedCall g font s m bs in fedThen f (play g font (f .answer .state) (f .mem) glass es)
+    let f = feedCall g font s m bs in
+    fedThen (f .answer .refusal) (f .answer .carried) (f .answer .answered) (play g font (f .answer .state) (f .mem) glass es)
 play g font s m glass (refresh ∷ es) =
-    let r = refreshCall g s m glass in refreshedThen r (play g font (r .answer .state) m (r .glass) es)
+    let r = refreshCall g s m glass in
+    refreshedThen (r .answer .refusal) (r .answer .moved) (play g font (r .answer .state) m (r .glass) es)
 
 -- ---- what document 01 has written at each refresh
 

@@ -1,12 +1,12 @@
 // Turns a font's text (fonts/panel.txt says how it is written) into the 1,120 bytes that a feed takes.
 // Reads the text on standard input and writes the bytes on standard output; or says on standard error which line is wrong.
 mod glyph;
+mod head;
 mod store;
 
 use libc::STDERR_FILENO;
 use libc::STDIN_FILENO;
 use libc::STDOUT_FILENO;
-use store::OTHERS;
 use store::PLACES;
 ghost use mathlib.Core.Path.{_≡_};
 ghost use Prim.Native.Nat.{_≤_, _<_};
@@ -54,41 +54,15 @@ fn reading(place: usize, rows: usize) -> Reader
     }
 }
 
-// Whether a line says nothing.
-fn is_silent(line: &[u8]) -> bool {
-    let i = words::skip_blanks(line, 0);
-    if i < line.len() {
-        return line[i] == b';';
-    }
-    true
-}
-
-// The place that a picture's first line names, PLACES if it names none.
-fn place_of(line: &[u8]) -> usize
-    ensures { λ r. ⌜ r ≤ 225 ⌝ }
-{
-    if words::is(line, 0, b"others") {
-        return OTHERS;
-    }
-    let b = words::byte_of(words::text(line, words::nth(line, 0)));
-    let code = b.byte as usize;
-    if b.ok {
-        if 0x20 <= code {
-            return code - 0x20;
-        }
-    }
-    PLACES
-}
-
 // A line between pictures.
 fn take_head(line: &[u8], store: &[u8]) -> Reader
     requires { ⌜ length (now store) ≡ 1350 ⌝ }
     ensures { λ r. ⌜ (r .place ≤ 224) × (r .rows ≤ 7) ⌝ }
 {
-    if is_silent(line) {
+    if head::is_silent(line) {
         return reading(0, 7);
     }
-    let place = place_of(line);
+    let place = head::place_of(line);
     if place >= PLACES {
         return wrong(Flaw::BadCode);
     }

@@ -5,7 +5,6 @@ mod outcomes;
 
 pub use outcomes::outcome_number;
 pub use outcomes::outcome_words;
-pub use outcomes::refusal_number;
 
 // Byte i of a command; 0, which continues none, where it has not come.
 fn byte_at(command: &[u8], i: usize) -> u8 {

@@ -1,8 +1,7 @@
-// The numbers of outcomes and refusals, and each outcome in words.
+// The numbers of outcomes, and each in words.
 use paper::Outcome;
-use paper::Refusal;
 ghost use mathlib.Core.Path.{_≡_};
-ghost use Rattle.paper.specs.Numbers.{outcomeNumber, refusalNumber};
+ghost use Rattle.paper.specs.Numbers.{outcomeNumber};
 
 // The number of an outcome, 9 to 17.
 pub fn outcome_number(o: Outcome) -> u64
@@ -18,23 +17,6 @@ pub fn outcome_number(o: Outcome) -> u64
         Outcome::WindowHeld => 15,
         Outcome::TooLarge => 16,
         Outcome::NotDefined => 17,
-    }
-}
-
-// The number of a refusal, 1 to 8; 0 where the call was not refused.
-pub fn refusal_number(r: Refusal) -> u64
-    ensures { λ n. ⌜ n ≡ refusalNumber r ⌝ }
-{
-    match r {
-        Refusal::Accepted => 0,
-        Refusal::MemoryLength => 1,
-        Refusal::FontLength => 2,
-        Refusal::GlassLength => 3,
-        Refusal::NoSuchWindow => 4,
-        Refusal::UndefinedWindow => 5,
-        Refusal::HeldAlready => 6,
-        Refusal::NotHeld => 7,
-        Refusal::BrokenState => 8,
     }
 }
 

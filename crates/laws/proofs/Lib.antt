@@ -6,3 +6,4 @@ pub mod Drawn
 pub mod Tests
 pub mod Readings
 pub mod Beginnings
+pub mod Endings

@@ -1,5 +1,6 @@
--- Which half-read commands some bytes lead to, by the reading rules alone. Assumes nothing.
--- That these are the ones the paper accepts is proved in proofs/Beginnings.antt.
+-- "A proper beginning of a command by the reading rules": which half-read commands some bytes lead to, and from which some bytes
+-- lead to a whole command. Assumes nothing.
+-- That the first are the ones the paper accepts is proved in proofs/Beginnings.antt, what finishes them in proofs/Endings.antt.
 use Prim.Native.Nat.{ℕ, _<_}
 use mathlib.Core.Path.{_≡_}
 use mathlib.Core.List.{List, [], _∷_, _++_}
@@ -8,7 +9,8 @@ use Rattle.paper.specs.declared.Word.{Word}
 use Rattle.paper.specs.declared.Word.the-variants.{CursorX, CursorY, WindowLeft, WindowTop, WindowWidth, WindowHeight, ImageWidth, ImageHeight}
 use Rattle.paper.specs.declared.Half.{Half}
 use Rattle.paper.specs.declared.Half.the-variants.{Nothing, Escape, Group, Actions, Pictures, Characters, Windows, Value, Rest, DefineA, DefineFrom, DefineTo, GlyphWidth, GlyphByte, Low, High, ImageKind, ImageData, EnlargeX, EnlargeY, SelectA, WindowA, WindowB}
-use Rattle.paper.specs.declared.Reading.the-variants.{More, Picture}
+use Rattle.paper.specs.declared.Command.{Command}
+use Rattle.paper.specs.declared.Reading.the-variants.{More, Whole, Picture, PictureEnd, Cancels}
 use Rattle.paper.specs.Reading.{readOf}
 
 -- the bytes, in the order in which they are read, begin a command, and this is half read after the last of them
@@ -22,6 +24,26 @@ pub data Begins (g : Geometry) : List ℕ → Half → Type 0 where
 pub record Beginning (g : Geometry) (p : Half) : Type 0 where
   pub bytes : List ℕ
   pub begins : Begins g bytes p
+
+-- the bytes, read one after the other, make what is half read a whole command at the last of them, and not before
+pub data Finishes (g : Geometry) : Half → List ℕ → Type 0 where
+  made-whole : {p : Half} (b : ℕ) (c : Command) → b < 256 → readOf g p b ≡ Whole c → Finishes g p (b ∷ [])
+  last-stored : {p : Half} (b column row : ℕ) → b < 256 → readOf g p b ≡ PictureEnd column row b → Finishes g p (b ∷ [])
+  then-more : {p q : Half} {bs : List ℕ} (b : ℕ) → b < 256 → readOf g p b ≡ More q → Finishes g q bs → Finishes g p (b ∷ bs)
+  then-stored : {p q : Half} {bs : List ℕ} (b column row : ℕ) → b < 256 → readOf g p b ≡ Picture column row b q → Finishes g q bs
+      → Finishes g p (b ∷ bs)
+
+-- some bytes lead from a half-read command to a whole one
+pub record Finished (g : Geometry) (p : Half) : Type 0 where
+  pub bytes : List ℕ
+  pub finishes : Finishes g p bytes
+
+-- "A bad size cancels when its high byte arrives", and not before: an image's size whose low byte has come and which is bad with
+-- every high byte
+pub data BadSize (g : Geometry) : Half → Type 0 where
+  bad-width : (low : ℕ) → ((b : ℕ) → readOf g (High ImageWidth low) b ≡ Cancels) → BadSize g (High ImageWidth low)
+  bad-height : (width low : ℕ) → ((b : ℕ) → readOf g (High (ImageHeight width) low) b ≡ Cancels)
+      → BadSize g (High (ImageHeight width) low)
 
 -- ---- the numbers of a half-read command fit the types that the paper declares for them
 

@@ -1,2 +1,3 @@
+pub mod Typed
 pub mod Cases
 pub mod Rules

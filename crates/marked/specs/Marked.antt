@@ -2,7 +2,7 @@
 -- Assumes nothing.
 use mathlib.Core.Path.{_≡_}
 use mathlib.Core.List.{List, [], _∷_, _++_}
-use Prim.Native.Nat.{ℕ, _+_, _*_, _/_, _<_}
+use Prim.Native.Nat.{ℕ, _+_, _*_, _/_, _<_, _≤_}
 use lib.ListN.{length, getD, replicate}
 use Rattle.paper.specs.declared.Cursor.{Cursor}
 use Rattle.paper.specs.declared.State.{State}
@@ -31,15 +31,17 @@ fresh = refreshCall panel (begun .answer .state) (begun .mem) (replicate 224 0xC
 abbrev pub freshState : State
 freshState = fresh .answer .state
 
--- a piece fed to a fresh, refreshed panel, whose memory is all zeros; and the same with every dot lit before
+-- n columns of one byte
+infixl 80 _of_
+abbrev pub _of_ : ℕ → ℕ → List ℕ
+n of b = replicate n b
+
+-- a piece fed to a fresh, refreshed panel; and the same over a memory of any byte b: 0 in the fresh one, 255 with every dot lit
 abbrev pub fed : List ℕ → List ℕ → Feeding
 fed font piece = feedCall panel font freshState (begun .mem) piece
 
-abbrev pub lit : List ℕ
-lit = replicate 1024 255
-
-abbrev pub fedLit : List ℕ → List ℕ → Feeding
-fedLit font piece = feedCall panel font freshState lit piece
+abbrev pub fedOver : ℕ → List ℕ → List ℕ → Feeding
+fedOver b font piece = feedCall panel font freshState (1024 of b) piece
 
 -- what a piece came to
 abbrev pub answersTo : Feeding → ℕ
@@ -57,11 +59,6 @@ rows [] k = k
 rows (a ∷ l) [] = a ∷ l
 rows (a ∷ l) (b ∷ k) = a ∷ b ∷ rows l k
 
--- n columns of one byte
-infixl 80 _of_
-abbrev pub _of_ : ℕ → ℕ → List ℕ
-n of b = replicate n b
-
 -- the glyph of 41h "with bit 0 cleared", its blank dot below; and with its blank dot above
 abbrev pub column : List ℕ → ℕ → ℕ
 column font k = getD font (5 * 33 + k) 0
@@ -72,6 +69,11 @@ glyph font =
 
 abbrev pub glyphLow : List ℕ → List ℕ
 glyphLow font = column font 0 / 2 ∷ column font 1 / 2 ∷ column font 2 / 2 ∷ column font 3 / 2 ∷ column font 4 / 2 ∷ []
+
+-- codes of characters
+abbrev pub Characters : List ℕ → Type 0
+Characters [] = Unit {0}
+Characters (c ∷ codes) = (0x20 ≤ c) × Characters codes
 
 -- pieces: cursor set, MD2, MD3, window 1 at (10,0) of 14 by 1
 abbrev pub cursorSet : ℕ → ℕ → ℕ → ℕ → List ℕ
@@ -93,25 +95,27 @@ image xL xH = 0x1F ∷ 0x28 ∷ 0x66 ∷ 0x11 ∷ xL ∷ xH ∷ []
 abbrev pub held : List ℕ → List ℕ → Answer
 held font piece = holdCall panel (fed font piece .answer .state) 1
 
-abbrev pub fedHeld : List ℕ → List ℕ → List ℕ → Feeding
-fedHeld font before piece = feedCall panel font (held font before .state) lit piece
+abbrev pub fedHeld : ℕ → List ℕ → List ℕ → List ℕ → Feeding
+fedHeld b font before piece = feedCall panel font (held font before .state) (1024 of b) piece
 
 -- ---- the cases
 
 pub record Marked (font : List ℕ) : Type 0 where
+  -- the fresh memory: what is said below over every byte b is said over it
+  pub fresh-memory : begun .mem ≡ 1024 of 0
   -- 1. Empty piece: no change, counts 0 and 0.
   pub case-1 : fed font [] ≡ feeding Accepted freshState 0 0 Unfinished (begun .mem)
   -- 2. 41h: addresses 0 and 12 become 0; 2, 4, 6, 8, 10 the glyph with bit 0 cleared; cursor (7,0); next refresh moves 7.
   pub case-2 :
-      (fedLit font (0x41 ∷ []) .mem ≡ rows (0 ∷ glyph font ++ 0 ∷ 505 of 255) (512 of 255))
+      ((b : ℕ) → fedOver b font (0x41 ∷ []) .mem ≡ rows (0 ∷ glyph font ++ 0 ∷ 505 of b) (512 of b))
       × (cursorAfter (fed font (0x41 ∷ [])) ≡ cursor 7 0 1)
       × (nextRefresh (fed font (0x41 ∷ [])) ≡ 7)
   -- 3. 16 characters: cursor (0,1).
-  pub case-3 : cursorAfter (fed font (16 of 0x41)) ≡ cursor 0 1 1
+  pub case-3 : (codes : List ℕ) → length codes ≡ 16 → Characters codes → cursorAfter (fed font codes) ≡ cursor 0 1 1
   -- 4. Cursor set to (106,0), 41h: columns 106 to 111 of row 0 blank, glyph in row 1, cursor (7,1).
   pub case-4 :
-      (fedLit font (cursorSet 106 0 0 0 ++ 0x41 ∷ []) .mem
-      ≡ rows (106 of 255 ++ 6 of 0 ++ 400 of 255) (0 ∷ glyphLow font ++ 0 ∷ 505 of 255))
+      ((b : ℕ) → fedOver b font (cursorSet 106 0 0 0 ++ 0x41 ∷ []) .mem
+      ≡ rows (106 of b ++ 6 of 0 ++ 400 of b) (0 ∷ glyphLow font ++ 0 ∷ 505 of b))
       × (cursorAfter (fed font (cursorSet 106 0 0 0 ++ 0x41 ∷ [])) ≡ cursor 7 1 1)
   -- 5. 1Fh 24h 00h 02h 00h 00h: 11, cursor (0,0). 1Fh 24h FFh 01h 01h 00h: cursor (511,1).
   pub case-5 :
@@ -121,8 +125,9 @@ pub record Marked (font : List ℕ) : Type 0 where
   -- 6. 1Fh 28h 66h 11h 00h 00h 0Ch: 12, then a clear; counts 1 and 1.
   pub case-6 :
       (answersTo (fed font (image 0x00 0x00)) ≡ 12)
-      × (fedLit font (image 0x00 0x00) .mem ≡ lit)
-      × (fedLit font (image 0x00 0x00 ++ 0x0C ∷ []) .mem ≡ rows (112 of 0 ++ 400 of 255) (112 of 0 ++ 400 of 255))
+      × ((b : ℕ) → fedOver b font (image 0x00 0x00) .mem ≡ 1024 of b)
+      × (answersTo (fed font (image 0x00 0x00 ++ 0x0C ∷ [])) ≡ 10)
+      × ((b : ℕ) → fedOver b font (image 0x00 0x00 ++ 0x0C ∷ []) .mem ≡ rows (112 of 0 ++ 400 of b) (112 of 0 ++ 400 of b))
       × (fed font (image 0x00 0x00 ++ 0x0C ∷ []) .answer .carried ≡ 1)
       × (fed font (image 0x00 0x00 ++ 0x0C ∷ []) .answer .answered ≡ 1)
   -- 7. Image x size 00h 02h is read on; 01h 02h cancels.
@@ -131,22 +136,24 @@ pub record Marked (font : List ℕ) : Type 0 where
   pub case-8 : cursorAfter (fed font (cursorSet 14 0 1 0 ++ 0x0A ∷ [])) ≡ cursor 14 0 1
   -- 9. MD2, cursor (0,1), 41h, LF: row 0 takes row 1, the glyph with its blank dot still above; row 1 zero, cursor (7,1).
   pub case-9 :
-      (fed font (md2 ++ cursorSet 0 0 1 0 ++ 0x41 ∷ 0x0A ∷ []) .mem ≡ rows (0 ∷ glyphLow font ++ 506 of 0) (512 of 0))
+      ((b : ℕ) → fedOver b font (md2 ++ cursorSet 0 0 1 0 ++ 0x41 ∷ 0x0A ∷ []) .mem
+      ≡ rows (0 ∷ glyphLow font ++ 0 ∷ 505 of b) (112 of 0 ++ 400 of b))
       × (cursorAfter (fed font (md2 ++ cursorSet 0 0 1 0 ++ 0x41 ∷ 0x0A ∷ [])) ≡ cursor 7 1 2)
   -- 10. MD3, cursor (105,0), 41h: drawn, row 0 moved left 7, cursor (105,0).
   pub case-10 :
-      (fed font (md3 ++ cursorSet 105 0 0 0 ++ 0x41 ∷ []) .mem ≡ rows (99 of 0 ++ glyph font ++ 408 of 0) (512 of 0))
+      ((b : ℕ) → fedOver b font (md3 ++ cursorSet 105 0 0 0 ++ 0x41 ∷ []) .mem
+      ≡ rows (98 of b ++ 0 ∷ glyph font ++ 0 ∷ 7 of 0 ++ 400 of b) (512 of b))
       × (cursorAfter (fed font (md3 ++ cursorSet 105 0 0 0 ++ 0x41 ∷ [])) ≡ cursor 105 0 3)
   -- 11. Window 1 at (10,0), 14 by 1, held; 1Bh 40h: 15; then 0Ch zeroes only even addresses 20 to 46.
   pub case-11 :
       (refusalNumber (held font windowOne .refusal) ≡ 0)
-      × (answersTo (fedHeld font windowOne (0x1B ∷ 0x40 ∷ [])) ≡ 15)
-      × (fedHeld font windowOne (0x1B ∷ 0x40 ∷ []) .mem ≡ lit)
-      × (fedHeld font windowOne (0x1B ∷ 0x40 ∷ 0x0C ∷ []) .mem ≡ rows (10 of 255 ++ 14 of 0 ++ 488 of 255) (512 of 255))
+      × ((b : ℕ) → answersTo (fedHeld b font windowOne (0x1B ∷ 0x40 ∷ [])) ≡ 15)
+      × ((b : ℕ) → fedHeld b font windowOne (0x1B ∷ 0x40 ∷ []) .mem ≡ 1024 of b)
+      × ((b : ℕ) → fedHeld b font windowOne (0x1B ∷ 0x40 ∷ 0x0C ∷ []) .mem ≡ rows (10 of b ++ 14 of 0 ++ 488 of b) (512 of b))
   -- 12. 1Fh 24h, hold of a defined window, 41h: a character, not a cursor parameter.
   pub case-12 :
       (refusalNumber (held font (windowOne ++ 0x1F ∷ 0x24 ∷ []) .refusal) ≡ 0)
-      × (answersTo (fedHeld font (windowOne ++ 0x1F ∷ 0x24 ∷ []) (0x41 ∷ [])) ≡ 10)
-      × (fedHeld font (windowOne ++ 0x1F ∷ 0x24 ∷ []) (0x41 ∷ []) .mem
-      ≡ rows (10 of 255 ++ 0 ∷ glyph font ++ 0 ∷ 495 of 255) (512 of 255))
-      × (cursorAfter (fedHeld font (windowOne ++ 0x1F ∷ 0x24 ∷ []) (0x41 ∷ [])) ≡ cursor 7 0 1)
+      × ((b : ℕ) → answersTo (fedHeld b font (windowOne ++ 0x1F ∷ 0x24 ∷ []) (0x41 ∷ [])) ≡ 10)
+      × ((b : ℕ) → fedHeld b font (windowOne ++ 0x1F ∷ 0x24 ∷ []) (0x41 ∷ []) .mem
+      ≡ rows (10 of b ++ 0 ∷ glyph font ++ 0 ∷ 495 of b) (512 of b))
+      × ((b : ℕ) → cursorAfter (fedHeld b font (windowOne ++ 0x1F ∷ 0x24 ∷ []) (0x41 ∷ [])) ≡ cursor 7 0 1)

@@ -208,11 +208,12 @@ fn put_back(s: State, h: Hold) -> State
             settings,
         } => {
             let back = settings;
+            let dropped = Half::Nothing;
             State {
                 settings: back,
                 selected,
                 hold: Hold::Free,
-                half: Half::Nothing,
+                half: dropped,
                 ..s
             }
         }

@@ -1,5 +1,5 @@
 // The glass as a picture: half-block characters for a terminal, or a PBM file, each put into a lent buffer.
-// It may use the paper, for the dots, and printing. What is drawn at a place is the paper's dot of the glass there.
+// It uses the paper, for the dots, and text put into a buffer. What is drawn at a place is the paper's dot of the glass there.
 ghost use mathlib.Core.Path.{_≡_};
 ghost use Prim.Native.Nat.{_+_, _*_, _≤_, _<_};
 ghost use lib.ListN.{length};
@@ -40,11 +40,11 @@ fn block(upper: bool, lower: bool) -> u16
 // A character in UTF-8; those from 80h to 7FFh are not for this function.
 fn put_code(out: &mut [u8], at: usize, code: u16) -> usize {
     if code < 0x80 {
-        return print::put(out, at, code as u8);
+        return view_text::put(out, at, code as u8);
     }
-    let at = print::put(out, at, (0xE0 + code / 4096) as u8);
-    let at = print::put(out, at, (0x80 + code / 64 % 64) as u8);
-    print::put(out, at, (0x80 + code % 64) as u8)
+    let at = view_text::put(out, at, (0xE0 + code / 4096) as u8);
+    let at = view_text::put(out, at, (0x80 + code / 64 % 64) as u8);
+    view_text::put(out, at, (0x80 + code % 64) as u8)
 }
 
 // The character for the dots of column x on lines 2n and 2n + 1.
@@ -65,7 +65,7 @@ fn put_line(out: &mut [u8], at: usize, glass: &[u8], n: usize) -> usize
         to = put_block(out, to, glass, x, n);
     }
     let to = put_code(out, to, 0x2502);
-    print::end(out, to)
+    view_text::end(out, to)
 }
 
 // The frame's upper or lower edge, between its corners.
@@ -75,7 +75,7 @@ fn put_edge(out: &mut [u8], at: usize, left: u16, right: u16) -> usize {
         to = put_code(out, to, 0x2500);
     }
     let to = put_code(out, to, right);
-    print::end(out, to)
+    view_text::end(out, to)
 }
 
 // The glass in a frame, drawn from the start of the buffer.
@@ -124,7 +124,7 @@ fn put_pbm_line(out: &mut [u8], at: usize, glass: &[u8], y: usize) -> usize
 {
     let mut to = at;
     for k in 0..COLUMNS / 8 {
-        to = print::put(out, to, pbm_byte(glass, k, y));
+        to = view_text::put(out, to, pbm_byte(glass, k, y));
     }
     to
 }
@@ -133,7 +133,7 @@ fn put_pbm_line(out: &mut [u8], at: usize, glass: &[u8], y: usize) -> usize
 pub fn pbm(out: &mut [u8], glass: &[u8]) -> usize
     requires { ⌜ length (now glass) ≡ 224 ⌝ }
 {
-    let mut to = print::text(out, 0, b"P4\n112 16\n");
+    let mut to = view_text::text(out, 0, b"P4\n112 16\n");
     for y in 0..LINES {
         to = put_pbm_line(out, to, glass, y);
     }

@@ -1,242 +1,111 @@
-// Plays a script (docs/SCRIPTS.md) on the panel: reads it on standard input, writes what each call answers on standard output,
-// and on standard error which line can't be read, where it stops, or which `=` line does not hold.
-mod trouble;
+// Plays calls stored as bytes (docs/SCRIPTS.md, "Calls as bytes") on the C face, and holds each to what is stored with it. Standard
+// input has the entries. It writes how many calls were played, and what the last of them differs in, if it does.
+mod calls;
+mod input;
 
-use libc::STDERR_FILENO;
+ghost use mathlib.Core.Path.{_≡_};
+ghost use lib.ListN.{length};
+use input::Run;
 use libc::STDIN_FILENO;
 use libc::STDOUT_FILENO;
-use script::Run;
-use script::Said;
-use words::Trouble;
 
-// A script that is being read: its run, how much of a line has come, its number, and whether the run has ended.
-struct Reader {
-    run: Run,
-    length: usize,
-    number: u64,
-    ended: bool,
-}
-
-// Begins a complaint about a line.
-fn complain(number: u64) {
-    io::write_all(STDERR_FILENO, b"line ");
-    io::print_decimal(STDERR_FILENO, number);
-    io::write_all(STDERR_FILENO, b": ");
-}
-
-fn complain_bad(number: u64, t: Trouble) {
-    complain(number);
-    trouble::write_trouble(t);
-    io::write_all(STDERR_FILENO, b"\n");
-}
-
-fn complain_differs(number: u64, written: &[u8], text: &[u8]) {
-    complain(number);
-    io::write_all(STDERR_FILENO, b"wrote ");
-    if written.len() == 0 {
-        io::write_all(STDERR_FILENO, b"nothing");
-    }
-    io::write_all(STDERR_FILENO, written);
-    io::write_all(STDERR_FILENO, b", expected ");
-    io::write_all(STDERR_FILENO, text);
-    io::write_all(STDERR_FILENO, b"\n");
-}
-
-// Writes what a line came to, and answers whether the run has ended.
-fn tell(number: u64, line: &[u8], run: Run, said: Said, out: &[u8]) -> bool {
-    match said {
-        Said::Nothing => false,
-        Said::Answer => !io::write_all(STDOUT_FILENO, words::part(out, 0, run.written)),
-        Said::Bad(t) => {
-            complain_bad(number, t);
-            true
-        }
-        Said::Differs {
-            start,
-            end,
-            text,
-            text_end,
-        } => {
-            complain_differs(
-                number,
-                words::part(out, start, end),
-                words::part(line, text, text_end),
-            );
-            false
-        }
+fn fill(buffer: &mut [u8], b: u8) {
+    for i in 0..buffer.len() {
+        buffer[i] = b;
     }
 }
 
-// The line that has come is played.
-fn end_line(
-    r: Reader,
-    line: &[u8],
-    mem: &mut [u8],
-    font: &mut [u8],
-    glass: &mut [u8],
-    piece: &mut [u8],
-    out: &mut [u8],
-) -> Reader {
-    let before = r.run;
-    let number = std::num::wrapping_add_u64(r.number, 1);
-    let text = words::part(line, 0, r.length);
-    let p = script::play(text, before, mem, font, glass, piece, out);
-    let run = p.run;
-    let said = p.said;
-    let ended = tell(number, text, run, said, out);
-    Reader {
-        run,
-        length: 0,
-        number,
-        ended,
+// Memory, glass and record of a new world: a start with no memory leaves the initial state, nothing marked.
+fn begin(run: Run, record: &mut [u8], mem: &mut [u8], glass: &mut [u8]) -> Run {
+    fill(mem, 0x3C);
+    fill(glass, 0xC3);
+    panel_c::panel_start(record, &mut mem[0..0]);
+    run
+}
+
+// Byte n of the record is the next byte of the input.
+fn put(all: &[u8], run: Run, record: &mut [u8]) -> Run {
+    let at = run.n as usize;
+    let next = input::byte(all, run);
+    if at < record.len() {
+        record[at] = next.n as u8;
+    }
+    next
+}
+
+// Plays the entry of this kind, whose number was read last. From 7 on it is a call.
+fn play(kind: u8, all: &[u8], r: Run, record: &mut [u8], mem: &mut [u8], glass: &mut [u8]) -> Run {
+    let n = r.n;
+    match kind {
+        0 => input::skip(all, r),
+        1 => Run { font_at: n, ..r },
+        2 => Run { mem: n, ..r },
+        3 => Run { font: n, ..r },
+        4 => Run { glass: n, ..r },
+        5 => begin(r, record, mem, glass),
+        6 => put(all, r, record),
+        7 => calls::start(all, r, record, mem),
+        8 => calls::feed(all, r, record, mem),
+        9 => calls::hold(all, r, record),
+        10 => calls::release(all, r, record),
+        _ => calls::refresh(all, r, record, mem, glass),
     }
 }
 
-// A line that the buffer does not hold ends the run.
-fn end_long(r: Reader) -> Reader {
-    complain(std::num::wrapping_add_u64(r.number, 1));
-    io::write_all(STDERR_FILENO, b"more than 200000 bytes\n");
-    let run = r.run;
-    Reader {
-        run,
-        length: 0,
-        number: r.number,
-        ended: true,
+// Plays the next entry, if there is one and nothing differs yet.
+fn play_next(all: &[u8], run: Run, record: &mut [u8], mem: &mut [u8], glass: &mut [u8]) -> Run {
+    if run.at >= all.len() {
+        return run;
     }
+    if run.differs != 0 {
+        return run;
+    }
+    let one = input::byte(all, run);
+    let kind = one.n as u8;
+    let r = play(kind, all, input::number(all, one), record, mem, glass);
+    if kind < 7 {
+        return r;
+    }
+    calls::hold_sums(all, r, record, mem, glass)
 }
 
-// One byte of the script.
-fn take_byte(
-    b: u8,
-    r: Reader,
-    line: &mut [u8],
-    mem: &mut [u8],
-    font: &mut [u8],
-    glass: &mut [u8],
-    piece: &mut [u8],
-    out: &mut [u8],
-) -> Reader {
-    if b == b'\n' {
-        return end_line(r, line, mem, font, glass, piece, out);
+// Plays all entries: there are no more of them than bytes.
+fn play_all(all: &[u8], record: &mut [u8], mem: &mut [u8], glass: &mut [u8]) -> Run {
+    let mut run = input::begin();
+    for _ in 0..all.len() {
+        run = play_next(all, run, record, mem, glass);
     }
-    let at = r.length;
-    if at >= line.len() {
-        return end_long(r);
-    }
-    line[at] = b;
-    let run = r.run;
-    Reader {
-        run,
-        length: at + 1,
-        number: r.number,
-        ended: false,
-    }
+    run
 }
 
-// The bytes that were read, until the run ends.
-fn take(
-    bytes: &[u8],
-    before: Reader,
-    line: &mut [u8],
-    mem: &mut [u8],
-    font: &mut [u8],
-    glass: &mut [u8],
-    piece: &mut [u8],
-    out: &mut [u8],
-) -> Reader {
-    let mut r = before;
-    let mut i = 0;
-    while i < bytes.len() {
-        if r.ended {
-            return r;
-        }
-        let next = i + 1;
-        r = take_byte(bytes[i], r, line, mem, font, glass, piece, out);
-        i = next;
+fn write_what(differs: u8) {
+    let fd = STDOUT_FILENO;
+    match differs {
+        0 => io::write_all(fd, b" calls played, no difference\n"),
+        1 => io::write_all(fd, b" calls played, the last with another answer\n"),
+        2 => io::write_all(fd, b" calls played, the last with another outcome\n"),
+        3 => io::write_all(fd, b" calls played, the last with another count\n"),
+        4 => io::write_all(fd, b" calls played, the last left another memory\n"),
+        5 => io::write_all(fd, b" calls played, the last left another glass\n"),
+        _ => io::write_all(fd, b" calls played, the last left another record\n"),
     }
-    r
+    ;
 }
 
-// At the end of the input the last line is played, if something of it has come.
-fn end_input(
-    r: Reader,
-    line: &[u8],
-    mem: &mut [u8],
-    font: &mut [u8],
-    glass: &mut [u8],
-    piece: &mut [u8],
-    out: &mut [u8],
-) -> Reader {
-    if r.length > 0 {
-        let last = end_line(r, line, mem, font, glass, piece, out);
-        return Reader {
-            ended: true,
-            ..last
-        };
-    }
-    Reader { ended: true, ..r }
-}
-
-// Reads once, and takes what has come.
-fn turn(
-    r: Reader,
-    chunk: &mut [u8],
-    line: &mut [u8],
-    mem: &mut [u8],
-    font: &mut [u8],
-    glass: &mut [u8],
-    piece: &mut [u8],
-    out: &mut [u8],
-) -> Reader {
-    let got = libc::read(STDIN_FILENO, chunk);
-    let n = io::count(got, chunk);
-    if n == 0 {
-        return end_input(r, line, mem, font, glass, piece, out);
-    }
-    take(&chunk[0..n], r, line, mem, font, glass, piece, out)
-}
-
-// Reads the script to its end. A proved loop has to end, and nothing says that the input does: it counts its turns down.
-fn run(
-    chunk: &mut [u8],
-    line: &mut [u8],
-    mem: &mut [u8],
-    font: &mut [u8],
-    glass: &mut [u8],
-    piece: &mut [u8],
-    out: &mut [u8],
-) {
-    let mut r = Reader {
-        run: script::new_run(mem, font, glass),
-        length: 0,
-        number: 0,
-        ended: false,
-    };
-    let mut turns = u64::MAX;
-    while turns > 0 {
-        if r.ended {
-            return;
-        }
-        turns -= 1;
-        r = turn(r, chunk, line, mem, font, glass, piece, out);
-    }
+// Room for the stored bytes.
+fn room() -> [u8; 1048576]
+    ensures { λ r. ⌜ 1048576 ≡ length r ⌝ }
+{
+    [0; 1048576]
 }
 
 fn main() {
-    let mut chunk = [0u8; 65536];
-    let mut line = [0u8; 200000];
-    let mut mem = [0u8; 4096];
-    let mut font = [0u8; 4096];
-    let mut glass = [0u8; 4096];
-    let mut piece = [0u8; 65536];
-    let mut out = [0u8; 262144];
-    run(
-        &mut chunk,
-        &mut line,
-        &mut mem,
-        &mut font,
-        &mut glass,
-        &mut piece,
-        &mut out,
-    );
+    let mut room = room();
+    let mut record = [0u8; 103];
+    let mut mem = io::buffer();
+    let mut glass = io::buffer();
+    let n = io::read_full(STDIN_FILENO, &mut room);
+    let run = play_all(&room[..n], &mut record, &mut mem, &mut glass);
+    io::print_decimal(STDOUT_FILENO, run.calls);
+    write_what(run.differs);
 }

@@ -1,7 +1,8 @@
-// Feeds a recorded stream to a fresh panel and writes its glass: drawn with half blocks, or as a PBM file, as the arguments ask.
-// Standard input has the font's 1,120 bytes and then the stream. The glass is what one refresh brings.
+// Feeds a recorded stream to a fresh panel and writes its glass, 224 bytes, and then a line of counts. The glass is what one refresh
+// brings. Standard input has the font's 1,120 bytes and then the stream.
 ghost use Rattle.paper.specs.Panel.{panel};
 ghost use Rattle.show.specs.Shown.{Shows, fedFresh, shownFresh};
+use libc::STDOUT_FILENO;
 use paper::Half;
 
 // What became of a stream: commands carried out, those answered 11 to 17, bytes moved, and whether a command is half read.
@@ -20,11 +21,11 @@ fn is_some(h: Half) -> bool {
 fn play(font: &[u8], stream: &[u8], mem: &mut [u8], glass: &mut [u8]) -> Counts
     ensures { λ r. ⌜ Shows (fedFresh panel (now (font .entry)) (now (mem .entry)) (now (stream .entry))) (shownFresh panel (now (font .entry)) (now (mem .entry)) (now (stream .entry)) (now (glass .entry))) r (now (glass .exit)) ⌝ }
 {
-    let a = viewer::start(mem);
+    let a = panel::start(mem);
     let fresh = a.state;
-    let f = viewer::feed(mem, font, stream, fresh);
+    let f = panel::feed(mem, font, stream, fresh);
     let fed = f.state;
-    let r = viewer::refresh(mem, glass, fed);
+    let r = panel::refresh(mem, glass, fed);
     let h = fed.half;
     Counts {
         carried: f.carried,
@@ -36,20 +37,20 @@ fn play(font: &[u8], stream: &[u8], mem: &mut [u8], glass: &mut [u8]) -> Counts
 
 // The line below the glass.
 fn put_note(out: &mut [u8], c: Counts) -> usize {
-    let at = print::decimal(out, 0, c.carried as u64);
-    let at = print::text(out, at, b" commands carried out, ");
-    let at = print::decimal(out, at, c.answered as u64);
-    let at = print::text(out, at, b" answered 11 to 17, ");
-    let at = print::decimal(out, at, c.moved as u64);
-    let at = print::text(out, at, b" bytes moved to the glass");
+    let at = view_text::decimal(out, 0, c.carried as u64);
+    let at = view_text::text(out, at, b" commands carried out, ");
+    let at = view_text::decimal(out, at, c.answered as u64);
+    let at = view_text::text(out, at, b" answered 11 to 17, ");
+    let at = view_text::decimal(out, at, c.moved as u64);
+    let at = view_text::text(out, at, b" bytes moved to the glass");
     put_end(out, at, c.half)
 }
 
 fn put_end(out: &mut [u8], at: usize, half: bool) -> usize {
     if half {
-        return print::text(out, at, b"; a command is half read\n");
+        return view_text::text(out, at, b"; a command is half read\n");
     }
-    print::end(out, at)
+    view_text::end(out, at)
 }
 
 // Plays a stream and writes what became of it.
@@ -59,7 +60,8 @@ fn show(font: &[u8], stream: &[u8]) {
     let mut note = [0u8; 256];
     let c = play(font, stream, &mut mem, &mut glass);
     let n = put_note(&mut note, c);
-    viewer::present(&glass, words::part(&note, 0, n));
+    io::write_all(STDOUT_FILENO, &glass);
+    io::write_all(STDOUT_FILENO, view_text::part(&note, 0, n));
 }
 
 fn main() {
@@ -70,6 +72,6 @@ fn main() {
     }
     let input = viewer::read_rest(&mut room);
     if input.ok {
-        show(&font, words::part(&room, 0, input.bytes));
+        show(&font, view_text::part(&room, 0, input.bytes));
     }
 }

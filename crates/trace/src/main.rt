@@ -9,7 +9,7 @@ use paper::State;
 fn write_line(place: usize, command: &[u8], o: Outcome, s: State) {
     let mut out = [0u8; 160];
     let n = line::put(&mut out, place, command, o, s);
-    io::write_all(STDOUT_FILENO, words::part(&out, 0, n));
+    io::write_all(STDOUT_FILENO, view_text::part(&out, 0, n));
 }
 
 // Writes the line of the command from `from` to before `next`, if its last byte finished it, and answers where the next begins.
@@ -17,19 +17,19 @@ fn tell(stream: &[u8], from: usize, next: usize, o: Outcome, s: State) -> usize 
     if kinds::outcome_number(o) == 9 {
         return from;
     }
-    write_line(from, words::part(stream, from, next), o, s);
+    write_line(from, view_text::part(stream, from, next), o, s);
     next
 }
 
 // Feeds the stream.
 fn trace(font: &[u8], stream: &[u8], mem: &mut [u8]) {
-    let a = viewer::start(mem);
+    let a = panel::start(mem);
     let mut state = a.state;
     let mut from = 0;
     let mut i = 0;
     while i < stream.len() {
         let next = i + 1;
-        let f = viewer::feed(mem, font, &stream[i..next], state);
+        let f = panel::feed(mem, font, &stream[i..next], state);
         let o = f.outcome;
         state = f.state;
         from = tell(stream, from, next, o, state);
@@ -49,6 +49,6 @@ fn main() {
     }
     let input = viewer::read_rest(&mut room);
     if input.ok {
-        trace(&font, words::part(&room, 0, input.bytes), &mut mem);
+        trace(&font, view_text::part(&room, 0, input.bytes), &mut mem);
     }
 }

@@ -13,7 +13,8 @@ use paper::Style;
 use paper::View;
 use paper::Window;
 ghost use mathlib.Core.Path.{_≡_};
-ghost use Prim.Native.Nat.{_+_, _≤_, _<_};
+ghost use Prim.Native.Nat.{_+_, _-_, _≤_, _<_};
+ghost use lib.ListN.{set};
 ghost use Rattle.paper.specs.Settings.{initialSettings, topLeft, noWindow, initialState, enlarged, withSetting, windowAt, newWindow, defined, cancelled, cursorOf, atCursor, inMode, insideWindow, baseView, windowView, viewOf, withView};
 ghost use Rattle.paper.specs.Carry.{isHeld, notCarriedValue, isWrite};
 
@@ -155,14 +156,24 @@ pub fn is_held(h: Hold) -> bool
     }
 }
 
+// The four user windows with one place changed: that of window k (1 to 4). Define, cancel and every move go through it.
+fn with_window(windows: [Window; 4], k: u8, w: Window) -> [Window; 4]
+    requires { ⌜ (1 ≤ k) × (k ≤ 4) ⌝ }
+    ensures { λ r. ⌜ r ≡ set windows (k - 1) w ⌝ }
+{
+    let i = (k - 1) as usize;
+    let mut changed = windows;
+    changed[i] = w;
+    changed
+}
+
 // The state with user window k (1 to 4) replaced.
-fn with_window(s: State, k: u8, w: Window) -> State
+fn replace(s: State, k: u8, w: Window) -> State
     requires { ⌜ (1 ≤ k) × (k ≤ 4) ⌝ }
     ensures { λ r. ⌜ r ≡ defined s k w ⌝ }
 {
-    let i = (k - 1) as usize;
-    let mut windows = s.windows;
-    windows[i] = w;
+    let before = s.windows;
+    let windows = with_window(before, k, w);
     State { windows, ..s }
 }
 
@@ -178,7 +189,7 @@ pub fn define(s: State, k: u8, left: u16, top: u16, width: u16, height: u16) -> 
         height,
         cursor: top_left(),
     };
-    with_window(s, k, w)
+    replace(s, k, w)
 }
 
 // Cancels user window k; the current one gives way to the base.
@@ -186,7 +197,7 @@ pub fn cancel(s: State, k: u8) -> State
     requires { ⌜ (1 ≤ k) × (k ≤ 4) ⌝ }
     ensures { λ r. ⌜ r ≡ cancelled s k ⌝ }
 {
-    let mut t = with_window(s, k, no_window());
+    let mut t = replace(s, k, no_window());
     if s.selected == k {
         t.selected = 0;
         return t;
@@ -233,7 +244,7 @@ pub fn at_cursor(s: State, c: Cursor) -> State
     }
     let mut w = current_window(s);
     w.cursor = c;
-    with_window(s, k, w)
+    replace(s, k, w)
 }
 
 // The current window in another mode.

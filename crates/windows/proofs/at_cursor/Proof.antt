@@ -13,7 +13,7 @@ returns-2 : tie.Need-returns-2
 unfolding atCursor
 returns-2 c =
     rw (ne-eqb _ _ (c .before .before .if1 .left))
-    (rw (c .before .current-window .ensures) at (c .with-window .ensures))
+    (rw (c .before .current-window .ensures) at (c .replace .ensures))
 
 pub at-cursor-spec : {M : Type 1} → statement M
 at-cursor-spec = tie.close (tie.spec returns (λ c κs. omega arith) (λ c κs. omega arith) returns-2)

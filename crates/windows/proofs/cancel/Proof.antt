@@ -9,7 +9,7 @@ unfolding cancelled
 returns c =
     rw (
       eq-eqb _ _ (c .if1 .taken),
-      c .before .before .with-window .ensures,
+      c .before .before .replace .ensures,
       c .before .before .before .no-window .ensures,
     )
 
@@ -18,7 +18,7 @@ unfolding cancelled
 returns-2 c =
     rw (
       ne-eqb _ _ (c .if1 .left),
-      c .before .before .with-window .ensures,
+      c .before .before .replace .ensures,
       c .before .before .before .no-window .ensures,
     )
 

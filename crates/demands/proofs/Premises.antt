@@ -1,0 +1,83 @@
+-- What the theorems assume can be had: for each premise that a theorem for users takes, one panel or list that meets it, with
+-- nothing assumed in turn. The panel is marked case 11's. A geometry is `Usable`: kept/proofs/Views `panel-usable`. Assumes nothing.
+use mathlib.Core.Path.{_≡_, refl}
+use mathlib.Core.Bool.{true}
+use mathlib.Core.List.{[], _∷_}
+use Prim.Native.Nat.{ℕ, zero, suc, _<_, _≤_}
+use native.Mathlib.Omega.{arith}
+use lib.ListN.{length, getD, replicate}
+use Rattle.paper.specs.declared.Word.the-variants.{CursorX}
+use Rattle.paper.specs.declared.Half.the-variants.{Low, ImageData}
+use Rattle.paper.specs.Panel.{panel, glassLength}
+use Rattle.paper.specs.Strokes.{noSpan, spanHolds, grown, grownBy}
+use Rattle.paper.specs.Numbers.{outcomeNumber}
+use Rattle.paper.specs.Reading.{readFirst, readUnit, readOf}
+use Rattle.paper.specs.Settings.{initialSettings, initialState}
+use Rattle.paper.specs.Bounds.{halfOk, accepted}
+use Rattle.paper.specs.Calls.{started, startCall, feedCall}
+use Rattle.laws.specs.Beginnings.{Begins, no-byte, one-more, Fits}
+use Rattle.marked.specs.Marked.{Font}
+use Rattle.kept.specs.Sized.{Sized}
+use Rattle.kept.specs.Guest.{Holding}
+use Rattle.kept.proofs.Views.{panel-usable}
+use Rattle.kept.proofs.Calls.{started-accepted}
+use Rattle.kept.proofs.Sized.{start-sized}
+use Rattle.stroke_laws.specs.Synced.{Synced}
+use Rattle.demands.specs.Demands.{holdNumber, windowFed, windowHeld, someFont, someMemory, someGlass}
+use Rattle.demands.proofs.Begun.{holdable, window-state}
+use Rattle.demands.proofs.Demands.{demand-2-outcome, demand-2-byte, demand-3-start, demand-3-met}
+
+-- demand-2-byte, demand-2-piece; kept/proofs/Accepted accepted-kept, run-accepted, and Calls feed-keeps to refresh-keeps
+pub fed-met : (length someMemory ≡ 1024) × (length someFont ≡ 1120) × (accepted panel (started panel) ≡ true)
+fed-met = (refl, refl, started-accepted panel panel-usable)
+
+-- demand-2-answered, with these: 00h is an unknown code
+pub answered-met : 11 ≤ outcomeNumber (feedCall panel someFont (started panel) someMemory (0x00 ∷ []) .answer .outcome)
+unfolding initialState readOf readFirst
+answered-met =
+    let unknown = demand-2-outcome someFont (started panel) 0x00 .number-13 .1 refl in
+    let f = demand-2-byte someFont (started panel) someMemory (fed-met .0) (fed-met .1) (fed-met .2) 0x00 in
+    rw (f .outcome) (omega (arith, unknown))
+
+-- demand-3 takes `InStep`: demand-3-met. kept/proofs/Held run-guest, run-outside, feed-guest, feed-outside
+pub holding-met : Holding panel 1 0 initialSettings (windowHeld someFont someMemory someGlass .answer .state)
+holding-met = demand-3-met .holding
+
+-- demand-3-feed; codec/proofs/Back back, read-back
+pub sized-met : Sized panel (startCall panel someMemory .answer .state)
+sized-met = start-sized panel someMemory
+
+-- demand-3-feed, demand-3-hold; stroke_laws/proofs/Glass strokes-synced, refreshed-shows, refreshed-synced
+pub synced-met : (length (started panel .spans) ≡ panel .rows) × (glassLength panel ≤ length someMemory)
+    × (length someGlass ≡ glassLength panel) × Synced panel someMemory someGlass (started panel .spans)
+unfolding panel initialState
+synced-met = (refl, omega arith, refl, demand-3-start someMemory someGlass)
+
+-- demand-3-hold
+pub hold-met : holdNumber panel (windowFed someFont someMemory .answer .state) 1 ≡ 0
+hold-met = rw (window-state someFont someMemory refl refl) (holdable someFont)
+
+-- kept/proofs/Spans run-holds, feed-holds
+pub span-met : spanHolds (getD (started panel .spans) 0 noSpan) 0 ≡ true
+unfolding panel initialState grown grownBy
+span-met = refl
+
+-- a font of zeros has no byte but 0
+zeros : (n k : ℕ) → getD (replicate n 0) k 0 < 256
+zeros zero k = omega arith
+zeros (suc n) zero = omega arith
+zeros (suc n) (suc k) = zeros n k
+
+-- marked/proofs/Cases marked
+pub font-met : Font someFont
+font-met = record { size = refl; bytes = zeros 1120 }
+
+-- laws/proofs/Beginnings begins-ok
+pub begins-met : Begins panel (0x1F ∷ 0x24 ∷ []) (Low CursorX)
+unfolding readFirst readUnit readOf
+begins-met = one-more 0x24 (one-more 0x1F no-byte (omega arith) refl) (omega arith) refl
+
+-- laws/proofs/Beginnings ok-begins
+pub fits-met : Fits (ImageData 512 2 511 1) × (halfOk panel (ImageData 512 2 511 1) ≡ true)
+unfolding panel halfOk
+fits-met = (omega arith, refl)

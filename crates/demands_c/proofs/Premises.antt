@@ -1,0 +1,41 @@
+-- What the theorems for C assume can be had: for each premise one record that meets it, with nothing assumed in turn; that of
+-- `demand-3-C` is `demand-3-met-C`. Assumes nothing.
+use mathlib.Core.Path.{_≡_, refl, sym, ap, _∙_}
+use mathlib.Core.Bool.{true, true≢false}
+use mathlib.Core.List.{List}
+use Prim.Native.Nat.{ℕ}
+use lib.ListN.{length}
+use Rattle.paper.specs.Panel.{panel}
+use Rattle.paper.specs.Settings.{inDomain}
+use Rattle.paper.specs.Bounds.{settingsOk, accepted}
+use Rattle.paper.specs.Calls.{startCall}
+use Rattle.kept.proofs.Views.{panel-usable}
+use Rattle.kept.proofs.Calls.{start-keeps}
+use Rattle.kept.proofs.Parts.{parts}
+use Rattle.kept.proofs.Sized.{start-sized}
+use Rattle.demands.specs.Demands.{someMemory}
+use Rattle.encoder.specs.Bytes.{encoded}
+use Rattle.encoder.proofs.Laid.{encoded-length}
+use Rattle.codec.specs.Record.{settingsAt, stateOf}
+use Rattle.codec.proofs.Back.{read-back}
+use Rattle.panel_c.proofs.Laws.{NoState}
+use Rattle.demands_c.specs.Demands.{someRecord}
+
+-- demand-2-C, with `fed-met` of crates/demands; demand-3-paper-C; panel_c/proofs/Laws start-stands to refresh-stands
+pub record-met : let l = encoded (startCall panel someMemory .answer .state) in
+    (length l ≡ 103) × (accepted panel (stateOf l) ≡ true)
+record-met =
+    let s = startCall panel someMemory .answer .state in (
+      encoded-length s,
+      ap (accepted panel) (read-back s (start-sized panel someMemory)) ∙ start-keeps panel panel-usable someMemory,
+    )
+
+-- panel_c/proofs/Laws feed-8, hold-8, release-8, refresh-8: no setting is AAh
+pub no-state-met : (length someRecord ≡ 103) × NoState someRecord
+unfolding encoded settingsOk inDomain
+no-state-met = (
+  refl,
+  λ s h e.
+      true≢false
+      (sym (parts panel s h .settings) ∙ ap settingsOk (ap (λ (l : List ℕ). settingsAt l 0) (sym e))),
+)

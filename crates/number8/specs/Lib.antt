@@ -1,0 +1,2 @@
+-- Number 8's clauses.
+pub mod Row
