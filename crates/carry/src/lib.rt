@@ -1,7 +1,7 @@
 // Carrying: one command, and what a byte of the stream was read as, on state and memory.
 // It may use commands and writes for what a command does, windows for whether one is held.
 // Each contract says that what was done is what the paper's meaning says.
-use commands::Done;
+use carry_state::Done;
 use paper::Command;
 use paper::Geometry;
 use paper::Half;
@@ -13,8 +13,8 @@ ghost use mathlib.Core.Bool.{true};
 ghost use lib.ListN.{length};
 ghost use Rattle.paper.specs.Panel.{fontLength};
 ghost use Rattle.paper.specs.Carry.{commandOf, takeOf};
-ghost use Rattle.laws.specs.Readings.{commandOk, readingOk};
-ghost use Rattle.writes.specs.Does.{Ready, Does};
+ghost use Rattle.laws_bytes.specs.Readings.{commandOk, readingOk};
+ghost use Rattle.carry_dots.specs.Does.{Ready, Does};
 
 // A command read whole.
 fn carry_out(g: Geometry, mem: &mut [u8], font: &[u8], s: State, c: Command) -> Done
@@ -22,30 +22,30 @@ fn carry_out(g: Geometry, mem: &mut [u8], font: &[u8], s: State, c: Command) -> 
     ensures { λ r. ⌜ Does g (now (mem .entry)) r (now (mem .exit)) (commandOf g (now (font .entry)) s c) ⌝ }
 {
     let h = s.hold;
-    let held = windows::is_held(h);
+    let held = state::is_held(h);
     match c {
-        Command::Character(b) => writes::character(g, mem, font, s, b),
-        Command::Back => commands::back(g, s),
-        Command::Tab => writes::tab(g, mem, s),
-        Command::LineFeed => writes::line_feed(g, mem, s),
-        Command::Home => commands::home(g, s),
-        Command::Clear => writes::clear(g, mem, s),
-        Command::Return => commands::carriage_return(g, s),
-        Command::Select(k) => commands::select(g, s, held, k),
-        Command::Initialise => writes::initialise(g, mem, s, held),
-        Command::Mode(n) => commands::mode(g, s, n),
-        Command::Set { key, value } => commands::set(g, s, held, key, value),
-        Command::Enlarge { x, y } => commands::enlarge(g, s, x, y),
-        Command::CursorSet { x, y } => commands::set_cursor(g, s, x, y),
+        Command::Character(b) => carry_dots::character(g, mem, font, s, b),
+        Command::Back => carry_state::back(g, s),
+        Command::Tab => carry_dots::tab(g, mem, s),
+        Command::LineFeed => carry_dots::line_feed(g, mem, s),
+        Command::Home => carry_state::home(g, s),
+        Command::Clear => carry_dots::clear(g, mem, s),
+        Command::Return => carry_state::carriage_return(g, s),
+        Command::Select(k) => carry_state::select(g, s, held, k),
+        Command::Initialise => carry_dots::initialise(g, mem, s, held),
+        Command::Mode(n) => carry_state::mode(g, s, n),
+        Command::Set { key, value } => carry_state::set(g, s, held, key, value),
+        Command::Enlarge { x, y } => carry_state::enlarge(g, s, x, y),
+        Command::CursorSet { x, y } => carry_state::set_cursor(g, s, x, y),
         Command::Define {
             a,
             left,
             top,
             width,
             height,
-        } => { commands::define(g, s, held, a, left, top, width, height) }
-        Command::Cancel(a) => commands::cancel(g, s, held, a),
-        Command::Uncarried => commands::ends(s, Outcome::NotCarried),
+        } => { carry_state::define(g, s, held, a, left, top, width, height) }
+        Command::Cancel(a) => carry_state::cancel(g, s, held, a),
+        Command::Uncarried => carry_state::ends(s, Outcome::NotCarried),
     }
 }
 
@@ -55,7 +55,7 @@ pub fn take(g: Geometry, mem: &mut [u8], font: &[u8], s: State, r: Reading) -> D
     ensures { λ d. ⌜ Does g (now (mem .entry)) d (now (mem .exit)) (takeOf g (now (font .entry)) s r) ⌝ }
 {
     match r {
-        Reading::More(half) => commands::ends(State { half, ..s }, Outcome::Unfinished),
+        Reading::More(half) => carry_state::ends(State { half, ..s }, Outcome::Unfinished),
         Reading::Whole(c) => {
             let t = State {
                 half: Half::Nothing,
@@ -69,10 +69,10 @@ pub fn take(g: Geometry, mem: &mut [u8], font: &[u8], s: State, r: Reading) -> D
             byte,
             next,
         } => {
-            let p = writes::pen_of(g, s);
+            let p = carry_dots::pen_of(g, s);
             let v = s.settings;
-            let spans = writes::picture(g, mem, p, v.style, column, row, byte);
-            commands::ends(
+            let spans = carry_dots::picture(g, mem, p, v.style, column, row, byte);
+            carry_state::ends(
                 State {
                     half: next,
                     spans,
@@ -82,10 +82,10 @@ pub fn take(g: Geometry, mem: &mut [u8], font: &[u8], s: State, r: Reading) -> D
             )
         }
         Reading::PictureEnd { column, row, byte } => {
-            let p = writes::pen_of(g, s);
+            let p = carry_dots::pen_of(g, s);
             let v = s.settings;
-            let spans = writes::picture(g, mem, p, v.style, column, row, byte);
-            commands::ends(
+            let spans = carry_dots::picture(g, mem, p, v.style, column, row, byte);
+            carry_state::ends(
                 State {
                     half: Half::Nothing,
                     spans,
@@ -99,14 +99,14 @@ pub fn take(g: Geometry, mem: &mut [u8], font: &[u8], s: State, r: Reading) -> D
                 half: Half::Nothing,
                 ..s
             };
-            commands::ends(t, Outcome::Cancelled)
+            carry_state::ends(t, Outcome::Cancelled)
         }
         Reading::UnknownCode => {
             let t = State {
                 half: Half::Nothing,
                 ..s
             };
-            commands::ends(t, Outcome::Unknown)
+            carry_state::ends(t, Outcome::Unknown)
         }
     }
 }

@@ -12,10 +12,10 @@ use Rattle.paper.specs.declared.Style.{Style}
 use Rattle.paper.specs.Panel.{address, dot, byteOf}
 use Rattle.paper.specs.Strokes.{rectMap}
 use Rattle.paper.specs.Cells.{Dots, enlargedDots, penned}
-use Rattle.laws.specs.Bytes.{reversedByte, mixedByte, pennedByte}
-use Rattle.laws.proofs.Penned.{penned-dots, penned-byte}
-use Rattle.dots.specs.Rectangles.{stored, Bytes}
-use Rattle.dots.proofs.Rects.{rect-none, rect-same, rect-beside, rect-below, stored-by}
+use Rattle.laws_bytes.specs.Bytes.{reversedByte, mixedByte, pennedByte}
+use Rattle.laws_bytes.proofs.Penned.{penned-dots, penned-byte}
+use Rattle.laws_memory.specs.Rectangles.{stored, Bytes}
+use Rattle.laws_memory.proofs.Rects.{rect-none, rect-same, rect-beside, rect-below, stored-by}
 use Rattle.cells.specs.declared.Tall.{Tall}
 use Rattle.cells.specs.Drawn.{cellMap, imaged}
 use Rattle.cells.specs.Columns.{atRow, mixedAt, mixedColumn}

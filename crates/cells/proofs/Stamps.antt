@@ -11,11 +11,11 @@ use Rattle.paper.specs.declared.Geometry.{Geometry}
 use Rattle.paper.specs.declared.Style.{Style}
 use Rattle.paper.specs.Strokes.{rectMap}
 use Rattle.paper.specs.Cells.{cellDot}
-use Rattle.laws.specs.Bytes.{reversedByte, cellByte, pennedByte}
-use Rattle.laws.proofs.Drawn.{cell-byte}
-use Rattle.dots.specs.Rectangles.{Bytes}
-use Rattle.dots.proofs.Tests.{and-parts}
-use Rattle.dots.proofs.Rects.{rect-beside}
+use Rattle.laws_bytes.specs.Bytes.{reversedByte, cellByte, pennedByte}
+use Rattle.laws_bytes.proofs.Drawn.{cell-byte}
+use Rattle.laws_memory.specs.Rectangles.{Bytes}
+use Rattle.laws_memory.proofs.Tests.{and-parts}
+use Rattle.laws_memory.proofs.Rects.{rect-beside}
 use Rattle.cells.specs.Drawn.{drawn}
 use Rattle.cells.specs.Columns.{mixedAt, plainByte, stamped}
 use Rattle.cells.proofs.Columns.{either, column-one, cell-turn, cell-end}

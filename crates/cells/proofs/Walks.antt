@@ -6,8 +6,8 @@ use native.Mathlib.Nat.{add-zero, mul-add-div, div-eq-of-lt}
 use native.Mathlib.Omega.{arith}
 use borrow.Author.Tests.{eq-eqb, ne-eqb}
 use Rattle.paper.specs.declared.Style.{Style}
-use Rattle.laws.specs.Bytes.{reversedByte, cellByte}
-use Rattle.dots.proofs.Tests.{eq-cases}
+use Rattle.laws_bytes.specs.Bytes.{reversedByte, cellByte}
+use Rattle.laws_memory.proofs.Tests.{eq-cases}
 use Rattle.cells.specs.declared.Tall.{Tall}
 use Rattle.cells.specs.declared.Walk.{Walk}
 use Rattle.cells.specs.Columns.{atRow, inkColumn, nextOf}

@@ -6,7 +6,7 @@ use lib.Dec.{eqb}
 use Rattle.paper.specs.declared.Geometry.{Geometry}
 use Rattle.paper.specs.declared.Style.{Style}
 use Rattle.paper.specs.Strokes.{rectMap}
-use Rattle.laws.specs.Bytes.{placedByte, glyphColumn, tallByte, reversedByte, mixedByte, pennedByte}
+use Rattle.laws_bytes.specs.Bytes.{placedByte, glyphColumn, tallByte, reversedByte, mixedByte, pennedByte}
 use Rattle.cells.specs.declared.Tall.{Tall}
 use Rattle.cells.specs.declared.Walk.{Walk}
 

@@ -8,8 +8,8 @@ ghost use Prim.Native.Nat.{_+_, _^_, _≤_, _<_};
 ghost use lib.ListN.{length};
 ghost use Rattle.paper.specs.Panel.{fontLength};
 ghost use Rattle.paper.specs.Cells.{cellWidth};
-ghost use Rattle.laws.specs.Bytes.{double, placedByte, glyphColumn, reversedByte, mixedByte};
-ghost use Rattle.dots.specs.Rectangles.{Fits, Within};
+ghost use Rattle.laws_bytes.specs.Bytes.{double, placedByte, glyphColumn, reversedByte, mixedByte};
+ghost use Rattle.laws_memory.specs.Rectangles.{Fits, Within};
 ghost use Rattle.cells.specs.Drawn.{drawn, blanked, imaged};
 ghost use Rattle.cells.specs.Columns.{tallOf, inkColumn, nextOf, mixedAt, mixedColumn, stamped};
 

@@ -14,13 +14,13 @@ use Rattle.paper.specs.Bounds.{settingsOk, cursorOk, isBlank, windowOk, windows
 use Rattle.paper.specs.Cells.{eraseStroke}
 use Rattle.paper.specs.Carry.{notCarried, isHeld, ownersOnly, outOfDomain, notDefined, cellExceeds, carriedOut, commandOf, takeOf, byteMeans}
 use Rattle.paper.specs.Calls.{isAccepted, started, startCall, Feeding, run, fedNothing, holdRefusal, holdCall}
-use Rattle.marked.specs.Marked.{windowOne}
-use Rattle.kept.proofs.Views.{panel-usable}
-use Rattle.kept.proofs.Calls.{started-accepted}
-use Rattle.kept.proofs.Refusals.{feed-taken}
-use Rattle.kept.proofs.Outside.{length-run}
-use Rattle.kept.proofs.Joined.{feed-runs}
-use Rattle.dots.proofs.Strokes.{apply-length}
+use Rattle.laws_marked.specs.Marked.{windowOne}
+use Rattle.laws_state.proofs.Views.{panel-usable}
+use Rattle.laws_state.proofs.Calls.{started-accepted}
+use Rattle.laws_state.proofs.Refusals.{feed-taken}
+use Rattle.laws_state.proofs.Outside.{length-run}
+use Rattle.laws_state.proofs.Joined.{feed-runs}
+use Rattle.laws_memory.proofs.Strokes.{apply-length}
 use Rattle.demands.specs.Events.{onwards}
 use Rattle.demands.specs.Demands.{holdNumber, windowFed}
 use Rattle.demands.proofs.Calls.{start-answers}

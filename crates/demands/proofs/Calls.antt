@@ -20,7 +20,7 @@ use Rattle.paper.specs.Settings.{windowAt, isDefined}
 use Rattle.paper.specs.Bounds.{accepted}
 use Rattle.paper.specs.Carry.{isHeld}
 use Rattle.paper.specs.Calls.{isNot, isAccepted, Starting, startRefusal, startCall, Feeding, feedRefusal, fedNothing, feedCall, holdRefusal, holdCall, releaseRefusal, releaseCall, Refreshing, refreshRefusal, refreshCall}
-use Rattle.kept.proofs.Joined.{run-refusal}
+use Rattle.laws_state.proofs.Joined.{run-refusal}
 use Rattle.demands.specs.Demands.{oneOf, StartAnswers, FeedAnswers, HoldAnswers, ReleaseAnswers, RefreshAnswers}
 use Rattle.demands.proofs.Rows.{here, later, otherwise, never, not-yes, not-no, length-wrong, length-right}
 

@@ -11,9 +11,9 @@ use Rattle.paper.specs.declared.Geometry.{Geometry}
 use Rattle.paper.specs.declared.Span.{Span}
 use Rattle.paper.specs.Panel.{glassLength}
 use Rattle.paper.specs.Strokes.{noSpan, spanHolds, shown, shownAll}
-use Rattle.dots.proofs.Tests.{lt-cases, cond-cases}
-use Rattle.dots.proofs.Addresses.{column-at, row-at}
-use Rattle.dots.proofs.Glass.{span-facts, span-test}
+use Rattle.laws_memory.proofs.Tests.{lt-cases, cond-cases}
+use Rattle.laws_memory.proofs.Addresses.{column-at, row-at}
+use Rattle.laws_memory.proofs.Glass.{span-facts, span-test}
 use Rattle.demands.specs.Demands.{spannedBelow}
 
 -- ---- the columns below v

@@ -16,13 +16,13 @@ use Rattle.paper.specs.Settings.{initialState, withHalf}
 use Rattle.paper.specs.Bounds.{accepted}
 use Rattle.paper.specs.Carry.{byteMeans}
 use Rattle.paper.specs.Calls.{started, startCall, feedCall, holdCall, refreshCall}
-use Rattle.marked.specs.Marked.{windowOne}
-use Rattle.kept.specs.Sized.{Sized}
-use Rattle.kept.proofs.Views.{panel-usable}
-use Rattle.kept.proofs.Sized.{initial-sized, start-sized}
-use Rattle.kept.proofs.Refusals.{feed-taken}
-use Rattle.stroke_laws.specs.Synced.{Synced}
-use Rattle.stroke_laws.proofs.Glass.{erased-synced}
+use Rattle.laws_marked.specs.Marked.{windowOne}
+use Rattle.laws_state.specs.Sized.{Sized}
+use Rattle.laws_state.proofs.Views.{panel-usable}
+use Rattle.laws_state.proofs.Sized.{initial-sized, start-sized}
+use Rattle.laws_state.proofs.Refusals.{feed-taken}
+use Rattle.laws_glass.specs.Synced.{Synced}
+use Rattle.laws_glass.proofs.Glass.{erased-synced}
 use Rattle.demands.specs.Events.{Event, refresh, joined, play}
 use Rattle.demands.specs.Demands.{StartAnswers, FeedAnswers, holdNumber, HoldAnswers, ReleaseAnswers, RefreshAnswers, ByteFed, ByteAnswers, OnlyAnswered, PieceFed, InStep, Served, windowFed, windowHeld, BegunInStep, someFont, someMemory, someGlass}
 use Rattle.demands.proofs.Calls.{start-answers, feed-answers, hold-answers, release-answers, refresh-answers}

@@ -19,23 +19,23 @@ use Rattle.paper.specs.Strokes.{Stroke, noSpan, applyAll, markAll, refreshed, s
 use Rattle.paper.specs.Settings.{withSpans}
 use Rattle.paper.specs.Bounds.{accepted}
 use Rattle.paper.specs.Calls.{isAccepted, Feeding, feeding, run, feedRefusal, fedNothing, feedCall, Refreshing, refreshing, refreshRefusal, emptied, refreshCall, heldBy, holdCall}
-use Rattle.kept.specs.Room.{Usable}
-use Rattle.kept.specs.Sized.{Sized}
-use Rattle.kept.specs.Guest.{Guest, OnlyInside}
-use Rattle.kept.specs.Joined.{Joined}
-use Rattle.kept.proofs.Tests.{by-cond}
-use Rattle.kept.proofs.Accepted.{run-accepted}
-use Rattle.kept.proofs.Calls.{held-accepted, emptied-accepted, feed-keeps}
-use Rattle.kept.proofs.Refusals.{feed-given, feed-taken}
-use Rattle.kept.proofs.Joined.{feed-runs, run-refusal}
-use Rattle.kept.proofs.Pieces.{pieces-joined}
-use Rattle.kept.proofs.Held.{feed-guest, feed-outside}
-use Rattle.dots.proofs.Spans.{marks-append, marks-length}
-use Rattle.dots.proofs.Strokes.{apply-length}
-use Rattle.dots.proofs.Glass.{covered, covered-facts, covered-test, refreshed-length, refreshed-in, refreshed-out, shown-most}
-use Rattle.dots.proofs.Tests.{not-both}
-use Rattle.stroke_laws.specs.Synced.{Synced}
-use Rattle.stroke_laws.proofs.Glass.{strokes-synced, refreshed-shows, refreshed-synced}
+use Rattle.laws_state.specs.Room.{Usable}
+use Rattle.laws_state.specs.Sized.{Sized}
+use Rattle.laws_state.specs.Guest.{Guest, OnlyInside}
+use Rattle.laws_state.specs.Joined.{Joined}
+use Rattle.laws_state.proofs.Tests.{by-cond}
+use Rattle.laws_state.proofs.Accepted.{run-accepted}
+use Rattle.laws_state.proofs.Calls.{held-accepted, emptied-accepted, feed-keeps}
+use Rattle.laws_state.proofs.Refusals.{feed-given, feed-taken}
+use Rattle.laws_state.proofs.Joined.{feed-runs, run-refusal}
+use Rattle.laws_state.proofs.Pieces.{pieces-joined}
+use Rattle.laws_state.proofs.Held.{feed-guest, feed-outside}
+use Rattle.laws_memory.proofs.Spans.{marks-append, marks-length}
+use Rattle.laws_memory.proofs.Strokes.{apply-length}
+use Rattle.laws_memory.proofs.Glass.{covered, covered-facts, covered-test, refreshed-length, refreshed-in, refreshed-out, shown-most}
+use Rattle.laws_memory.proofs.Tests.{not-both}
+use Rattle.laws_glass.specs.Synced.{Synced}
+use Rattle.laws_glass.proofs.Glass.{strokes-synced, refreshed-shows, refreshed-synced}
 use Rattle.demands.specs.Events.{Event, piece, refresh, joined, Play, resting, fedThen, refreshedThen, followed, play, onwards, strokesOf, noSpans, spansSince, owed, visible}
 use Rattle.demands.specs.Demands.{holdNumber, InStep, RefreshedAt, Served}
 use Rattle.demands.proofs.Calls.{hold-answers}

@@ -18,11 +18,11 @@ use Rattle.paper.specs.Settings.{withSpans}
 use Rattle.paper.specs.Bounds.{accepted}
 use Rattle.paper.specs.Carry.{byteMeans}
 use Rattle.paper.specs.Calls.{Feeding, feedRefusal, next, run, fedNothing, feedCall}
-use Rattle.kept.specs.Room.{Usable}
-use Rattle.kept.proofs.Accepted.{run-accepted}
-use Rattle.kept.proofs.Refusals.{feed-taken}
-use Rattle.kept.proofs.Outside.{length-run}
-use Rattle.kept.proofs.Joined.{feed-runs, run-refusal}
+use Rattle.laws_state.specs.Room.{Usable}
+use Rattle.laws_state.proofs.Accepted.{run-accepted}
+use Rattle.laws_state.proofs.Refusals.{feed-taken}
+use Rattle.laws_state.proofs.Outside.{length-run}
+use Rattle.laws_state.proofs.Joined.{feed-runs, run-refusal}
 use Rattle.demands.specs.Demands.{ByteFed, OnlyAnswered, fedOnce, fedSingly, PieceFed}
 use Rattle.demands.proofs.Outcomes.{byte-answers}
 

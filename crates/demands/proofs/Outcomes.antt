@@ -21,7 +21,7 @@ use Rattle.paper.specs.Reading.{readOf}
 use Rattle.paper.specs.Settings.{withHalf}
 use Rattle.paper.specs.Carry.{Meaning, notCarried, isHeld, ownersOnly, outOfDomain, notDefined, cellExceeds, carriedOut, answers, commandOf, takeOf, byteMeans}
 use Rattle.paper.specs.Calls.{next}
-use Rattle.kept.proofs.Cases.{by-command}
+use Rattle.laws_state.proofs.Cases.{by-command}
 use Rattle.demands.specs.Demands.{finishes, endsImage, IsCommand, After14, After15, After11, After17, ByteAnswers}
 use Rattle.demands.proofs.Rows.{never, here, later, otherwise}
 

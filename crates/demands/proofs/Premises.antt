@@ -15,14 +15,14 @@ use Rattle.paper.specs.Reading.{readFirst, readUnit, readOf}
 use Rattle.paper.specs.Settings.{initialSettings, initialState}
 use Rattle.paper.specs.Bounds.{halfOk, accepted}
 use Rattle.paper.specs.Calls.{started, startCall, feedCall}
-use Rattle.laws.specs.Beginnings.{Begins, no-byte, one-more, Fits}
-use Rattle.marked.specs.Marked.{Font}
-use Rattle.kept.specs.Sized.{Sized}
-use Rattle.kept.specs.Guest.{Holding}
-use Rattle.kept.proofs.Views.{panel-usable}
-use Rattle.kept.proofs.Calls.{started-accepted}
-use Rattle.kept.proofs.Sized.{start-sized}
-use Rattle.stroke_laws.specs.Synced.{Synced}
+use Rattle.laws_bytes.specs.Beginnings.{Begins, no-byte, one-more, Fits}
+use Rattle.laws_marked.specs.Marked.{Font}
+use Rattle.laws_state.specs.Sized.{Sized}
+use Rattle.laws_state.specs.Guest.{Holding}
+use Rattle.laws_state.proofs.Views.{panel-usable}
+use Rattle.laws_state.proofs.Calls.{started-accepted}
+use Rattle.laws_state.proofs.Sized.{start-sized}
+use Rattle.laws_glass.specs.Synced.{Synced}
 use Rattle.demands.specs.Demands.{holdNumber, windowFed, windowHeld, someFont, someMemory, someGlass}
 use Rattle.demands.proofs.Begun.{holdable, window-state}
 use Rattle.demands.proofs.Demands.{demand-2-outcome, demand-2-byte, demand-3-start, demand-3-met}

@@ -22,8 +22,8 @@ use Rattle.paper.specs.Settings.{withHalf, withSpans, cancelled, cursorOf, atCu
 use Rattle.paper.specs.Moves.{Moved, htOf, characterOf, lineFeedOf, clearOf}
 use Rattle.paper.specs.Carry.{Meaning, means, moves, becomes, isHeld, notCarried, ownersOnly, outOfDomain, notDefined, cellExceeds, widthNow, heightNow, carriedOut, answers, commandOf, imageStrokes, takeOf, byteMeans}
 use Rattle.paper.specs.Calls.{Feeding, feeding, settled, counted, next, run}
-use Rattle.dots.proofs.Strokes.{apply-append}
-use Rattle.dots.proofs.Spans.{marks-append}
+use Rattle.laws_memory.proofs.Strokes.{apply-append}
+use Rattle.laws_memory.proofs.Spans.{marks-append}
 use Rattle.demands.specs.Events.{onwards, strokesOf}
 
 -- ---- one byte

@@ -25,8 +25,8 @@ use Rattle.paper.specs.Bounds.{accepted}
 use Rattle.paper.specs.Cells.{eraseStroke}
 use Rattle.paper.specs.Carry.{notCarried, isHeld, ownersOnly, outOfDomain, notDefined, cellExceeds, Meaning}
 use Rattle.paper.specs.Calls.{Feeding, feeding, settled, run, fedNothing, started, startCall, feedCall, heldBy, holdCall, released, releaseCall, emptied, Refreshing, refreshCall}
-use Rattle.marked.specs.Marked.{windowOne}
-use Rattle.kept.specs.Guest.{Holding, Guest, OnlyInside}
+use Rattle.laws_marked.specs.Marked.{windowOne}
+use Rattle.laws_state.specs.Guest.{Holding, Guest, OnlyInside}
 use Rattle.demands.specs.Events.{Event, refresh, Play, refreshedThen, followed, play, noSpans, spansSince, owed, visible}
 
 -- ==== DEMAND 1. "Any bytes, buffers and state record may be handed in. Each call answers or refuses by document 01's numbers,

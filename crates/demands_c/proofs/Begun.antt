@@ -7,12 +7,12 @@ use borrow.Author.Tests.{eq-eqb}
 use Rattle.paper.specs.declared.State.{State}
 use Rattle.paper.specs.Panel.{panel}
 use Rattle.paper.specs.Calls.{Feeding, startCall, feedCall, holdCall, Refreshing, refreshCall}
-use Rattle.marked.specs.Marked.{windowOne}
+use Rattle.laws_marked.specs.Marked.{windowOne}
 use Rattle.demands.specs.Demands.{windowFed, windowHeld}
 use Rattle.demands.proofs.Demands.{demand-3-begun}
-use Rattle.encoder.specs.Bytes.{recordLength}
-use Rattle.encoder.proofs.Laid.{encoded-length}
-use Rattle.codec.specs.Record.{stateOf}
+use Rattle.record_write.specs.Bytes.{recordLength}
+use Rattle.record_write.proofs.Laid.{encoded-length}
+use Rattle.record_read.specs.Record.{stateOf}
 use Rattle.panel_c.specs.Face.{StartingC, startingC, startC, FeedingC, CallingC, callingC, holdC, RefreshingC}
 use Rattle.panel_c.proofs.Laws.{start-stands, feed-stands, hold-stands, refresh-stands}
 use Rattle.demands_c.specs.Demands.{windowFedC, BegunInStepC}

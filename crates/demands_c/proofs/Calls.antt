@@ -15,12 +15,12 @@ use Rattle.paper.specs.Settings.{initialState}
 use Rattle.paper.specs.Bounds.{accepted}
 use Rattle.paper.specs.Cells.{eraseStroke}
 use Rattle.paper.specs.Calls.{isNot, started, feedCall, heldBy, released, emptied}
-use Rattle.kept.proofs.Tests.{by-cond}
+use Rattle.laws_state.proofs.Tests.{by-cond}
 use Rattle.demands.specs.Demands.{oneOf, startNumber, feedNumber, holdNumber, releaseNumber, refreshNumber}
 use Rattle.demands.proofs.Rows.{here, later, length-wrong, length-right}
 use Rattle.demands.proofs.Demands.{demand-1-start, demand-1-feed, demand-1-hold, demand-1-release, demand-1-refresh}
-use Rattle.encoder.specs.Bytes.{recordLength, encoded}
-use Rattle.codec.specs.Record.{stateOf}
+use Rattle.record_write.specs.Bytes.{recordLength, encoded}
+use Rattle.record_read.specs.Record.{stateOf}
 use Rattle.panel_c.specs.Face.{recordAfter, StartingC, startC, FeedingC, feedC, CallingC, holdC, releaseC, RefreshingC, refreshC}
 use Rattle.panel_c.proofs.Laws.{feed-stands}
 use Rattle.demands_c.specs.Demands.{StartAnswersC, NothingFedC, FeedAnswersC, HoldAnswersC, ReleaseAnswersC, RefreshAnswersC, PieceFedC}

@@ -11,7 +11,7 @@ use Rattle.paper.specs.Bounds.{accepted}
 use Rattle.paper.specs.Calls.{feedCall}
 use Rattle.demands.specs.Events.{Event, refresh, joined, play}
 use Rattle.demands.specs.Demands.{InStep, someFont, someMemory, someGlass}
-use Rattle.codec.specs.Record.{stateOf}
+use Rattle.record_read.specs.Record.{stateOf}
 use Rattle.panel_c.specs.Face.{feedC}
 use Rattle.demands_c.specs.Plays.{playC, SamePlay}
 use Rattle.demands_c.specs.Demands.{StartAnswersC, FeedAnswersC, HoldAnswersC, ReleaseAnswersC, RefreshAnswersC, PieceFedC, ServedC, BegunInStepC, someRecord}

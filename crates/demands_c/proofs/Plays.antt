@@ -13,15 +13,15 @@ use Rattle.paper.specs.Panel.{panel}
 use Rattle.paper.specs.Numbers.{refusalNumber}
 use Rattle.paper.specs.Settings.{withSpans}
 use Rattle.paper.specs.Calls.{feedCall, Refreshing, refreshCall}
-use Rattle.kept.specs.Guest.{Guest, OnlyInside}
-use Rattle.kept.proofs.Tests.{by-cond}
+use Rattle.laws_state.specs.Guest.{Guest, OnlyInside}
+use Rattle.laws_state.proofs.Tests.{by-cond}
 use Rattle.demands.specs.Events.{Event, piece, refresh, joined, fedThen, refreshedThen, followed, play, spansSince, visible}
 use Rattle.demands.specs.Demands.{InStep, CopiedOnly}
 use Rattle.demands.proofs.Events.{rested, fed-first}
 use Rattle.demands.proofs.Demands.{demand-3}
-use Rattle.encoder.specs.Bytes.{recordLength}
-use Rattle.encoder.proofs.Laid.{encoded-length}
-use Rattle.codec.specs.Record.{stateOf}
+use Rattle.record_write.specs.Bytes.{recordLength}
+use Rattle.record_write.proofs.Laid.{encoded-length}
+use Rattle.record_read.specs.Record.{stateOf}
 use Rattle.panel_c.specs.Face.{recordAfter, FeedingC, feedingC, feedC, RefreshingC, refreshingC, refreshC}
 use Rattle.panel_c.proofs.Laws.{feed-stands, refresh-stands}
 use Rattle.demands_c.specs.Plays.{playC, SamePlay}

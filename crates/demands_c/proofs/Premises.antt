@@ -9,15 +9,15 @@ use Rattle.paper.specs.Panel.{panel}
 use Rattle.paper.specs.Settings.{inDomain}
 use Rattle.paper.specs.Bounds.{settingsOk, accepted}
 use Rattle.paper.specs.Calls.{startCall}
-use Rattle.kept.proofs.Views.{panel-usable}
-use Rattle.kept.proofs.Calls.{start-keeps}
-use Rattle.kept.proofs.Parts.{parts}
-use Rattle.kept.proofs.Sized.{start-sized}
+use Rattle.laws_state.proofs.Views.{panel-usable}
+use Rattle.laws_state.proofs.Calls.{start-keeps}
+use Rattle.laws_state.proofs.Parts.{parts}
+use Rattle.laws_state.proofs.Sized.{start-sized}
 use Rattle.demands.specs.Demands.{someMemory}
-use Rattle.encoder.specs.Bytes.{encoded}
-use Rattle.encoder.proofs.Laid.{encoded-length}
-use Rattle.codec.specs.Record.{settingsAt, stateOf}
-use Rattle.codec.proofs.Back.{read-back}
+use Rattle.record_write.specs.Bytes.{encoded}
+use Rattle.record_write.proofs.Laid.{encoded-length}
+use Rattle.record_read.specs.Record.{settingsAt, stateOf}
+use Rattle.record_read.proofs.Back.{read-back}
 use Rattle.panel_c.proofs.Laws.{NoState}
 use Rattle.demands_c.specs.Demands.{someRecord}
 

@@ -17,11 +17,11 @@ use Rattle.paper.specs.Panel.{panel}
 use Rattle.paper.specs.Strokes.{noSpan}
 use Rattle.paper.specs.Settings.{windowAt, selectable}
 use Rattle.paper.specs.Bounds.{windowsOk, holdOk, spanOk, spansOk, accepted}
-use Rattle.kept.proofs.Parts.{parts, whole}
-use Rattle.encoder.specs.Bytes.{windowsBytes, tailBytes, encoded}
-use Rattle.encoder.proofs.Laid.{encoded-length}
-use Rattle.codec.specs.Record.{stateOf}
-use Rattle.codec.proofs.Back.{read-back, accepted-record, other-bytes}
+use Rattle.laws_state.proofs.Parts.{parts, whole}
+use Rattle.record_write.specs.Bytes.{windowsBytes, tailBytes, encoded}
+use Rattle.record_write.proofs.Laid.{encoded-length}
+use Rattle.record_read.specs.Record.{stateOf}
+use Rattle.record_read.proofs.Back.{read-back, accepted-record, other-bytes}
 use Rattle.panel_c.proofs.Laws.{NoState}
 
 -- ---- a record has four windows and two spans, and no more of a state is ever tested

@@ -16,12 +16,12 @@ use Rattle.paper.specs.Bounds.{accepted}
 use Rattle.paper.specs.Cells.{eraseStroke}
 use Rattle.paper.specs.Carry.{isHeld}
 use Rattle.paper.specs.Calls.{Feeding, started, heldBy, released, emptied}
-use Rattle.marked.specs.Marked.{windowOne}
-use Rattle.kept.specs.Guest.{Guest, OnlyInside}
+use Rattle.laws_marked.specs.Marked.{windowOne}
+use Rattle.laws_state.specs.Guest.{Guest, OnlyInside}
 use Rattle.demands.specs.Events.{Event, refresh, spansSince, owed, visible}
 use Rattle.demands.specs.Demands.{oneOf, InStep, RefreshedAt}
-use Rattle.encoder.specs.Bytes.{encoded}
-use Rattle.codec.specs.Record.{stateOf}
+use Rattle.record_write.specs.Bytes.{encoded}
+use Rattle.record_read.specs.Record.{stateOf}
 use Rattle.panel_c.specs.Face.{startC, FeedingC, feedC, holdC, releaseC, RefreshingC, refreshC}
 use Rattle.panel_c.proofs.Laws.{NoState}
 use Rattle.demands_c.specs.Plays.{PlayC, playC}

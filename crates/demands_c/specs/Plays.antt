@@ -7,7 +7,7 @@ use Rattle.paper.specs.declared.Refusal.{Refusal}
 use Rattle.paper.specs.declared.State.{State}
 use Rattle.paper.specs.Numbers.{refusalNumber}
 use Rattle.demands.specs.Events.{Event, piece, refresh, Play, resting, fedThen, refreshedThen}
-use Rattle.codec.specs.Record.{stateOf}
+use Rattle.record_read.specs.Record.{stateOf}
 use Rattle.panel_c.specs.Face.{feedC, refreshC}
 
 -- the state is held as a record, and a call answers a number

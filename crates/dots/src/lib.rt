@@ -8,9 +8,9 @@ ghost use Prim.Native.Nat.{_+_, _≤_, _<_, min};
 ghost use lib.ListN.{length, getD, set};
 ghost use Rattle.paper.specs.Panel.{memoryLength, address};
 ghost use Rattle.paper.specs.Strokes.{grown, shown, shownAll, refreshed};
-ghost use Rattle.dots.specs.Rectangles.{Fits, Within, cleared, pulled, scrolledUp, movedLeft, stored};
-ghost use Rattle.dots.specs.Spans.{grownRect, markRect};
-ghost use Rattle.dots.specs.Glass.{Shows, copied};
+ghost use Rattle.laws_memory.specs.Rectangles.{Fits, Within, cleared, pulled, scrolledUp, movedLeft, stored};
+ghost use Rattle.laws_memory.specs.Spans.{grownRect, markRect};
+ghost use Rattle.laws_memory.specs.Glass.{Shows, copied};
 
 // The address of column x, row y.
 pub fn at(g: Geometry, x: usize, y: usize) -> usize

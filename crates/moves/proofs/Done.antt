@@ -7,9 +7,9 @@ use Rattle.paper.specs.declared.Span.{Span}
 use Rattle.paper.specs.declared.View.{View}
 use Rattle.paper.specs.Strokes.{Stroke, applied, applyAll, markAll}
 use Rattle.paper.specs.Moves.{Moved, only, writing, andThen}
-use Rattle.dots.specs.Spans.{markRect}
-use Rattle.dots.proofs.Strokes.{apply-append}
-use Rattle.dots.proofs.Spans.{marked-rect, marks-append}
+use Rattle.laws_memory.specs.Spans.{markRect}
+use Rattle.laws_memory.proofs.Strokes.{apply-append}
+use Rattle.laws_memory.proofs.Spans.{marked-rect, marks-append}
 use Rattle.moves.specs.declared.Pen.{Pen}
 use Rattle.moves.specs.Does.{Does, pen}
 

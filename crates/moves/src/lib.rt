@@ -8,8 +8,8 @@ ghost use mathlib.Core.Path.{_≡_};
 ghost use Prim.Native.Nat.{_+_, _*_, _≤_, _<_};
 ghost use Rattle.paper.specs.Cells.{upStroke};
 ghost use Rattle.paper.specs.Moves.{to, roomBelow, writing, nextLine, nextLineUp, pushLeft, htOf, backOf, lineDown, lineDownUp, lineFeedOf, clearOf};
-ghost use Rattle.dots.specs.Rectangles.{Fits};
-ghost use Rattle.kept.specs.Room.{Usable, InMemory, Room};
+ghost use Rattle.laws_memory.specs.Rectangles.{Fits};
+ghost use Rattle.laws_state.specs.Room.{Usable, InMemory, Room};
 ghost use Rattle.moves.specs.Does.{Does, pen};
 
 // What a move works on and gives back: the range with the cursor in it, and both rows' spans.

@@ -13,9 +13,9 @@ use Rattle.paper.specs.Settings.{initialState, withSpans}
 use Rattle.paper.specs.Bounds.{accepted}
 use Rattle.paper.specs.Cells.{eraseStroke}
 use Rattle.paper.specs.Calls.{isAccepted, answer, startRefusal, startCall, feedRefusal, run, fedNothing, feedCall}
-use Rattle.dots.specs.Rectangles.{cleared}
-use Rattle.dots.specs.Spans.{markRect}
-use Rattle.dots.proofs.Spans.{marked-rect}
+use Rattle.laws_memory.specs.Rectangles.{cleared}
+use Rattle.laws_memory.specs.Spans.{markRect}
+use Rattle.laws_memory.proofs.Spans.{marked-rect}
 use Rattle.panel.specs.Told.{started}
 
 -- a memory of the wrong length is handed back as it was, with the initial state

@@ -19,7 +19,7 @@ ghost use lib.ListN.{length};
 ghost use Rattle.paper.specs.Panel.{panel, fontLength};
 ghost use Rattle.paper.specs.Settings.{windowAt, isDefined};
 ghost use Rattle.paper.specs.Calls.{answer, startCall, run, fedNothing, feedCall, heldBy, holdCall, putBack, releaseCall, refreshing, refreshCall};
-ghost use Rattle.writes.specs.Does.{Ready};
+ghost use Rattle.carry_dots.specs.Does.{Ready};
 ghost use Rattle.panel.specs.Told.{started, fed, refreshed};
 
 // The 112 by 16 module.
@@ -40,7 +40,7 @@ pub fn start(mem: &mut [u8]) -> Answer
     ensures { λ r. ⌜ started r (now (mem .exit)) ≡ startCall panel (now (mem .entry)) ⌝ }
 {
     let g = module_size();
-    let t = windows::initial_state(g);
+    let t = state::initial_state(g);
     if mem.len() != 1024 {
         return Answer {
             refusal: Refusal::MemoryLength,
@@ -184,7 +184,7 @@ pub fn hold(s: State, k: usize) -> Answer
         return answers(Refusal::BrokenState, s);
     }
     let h = s.hold;
-    if windows::is_held(h) {
+    if state::is_held(h) {
         return answers(Refusal::HeldAlready, s);
     }
     if !((1 <= k) & (k <= 4)) {
@@ -228,7 +228,7 @@ pub fn release(s: State) -> Answer
         return answers(Refusal::BrokenState, s);
     }
     let h = s.hold;
-    if windows::is_held(h) {
+    if state::is_held(h) {
         return answers(Refusal::Accepted, put_back(s, h));
     }
     answers(Refusal::NotHeld, s)

@@ -14,13 +14,13 @@ use Rattle.paper.specs.Panel.{panel, fontLength}
 use Rattle.paper.specs.Numbers.{refusalNumber, outcomeNumber}
 use Rattle.paper.specs.Bounds.{accepted}
 use Rattle.paper.specs.Calls.{isAccepted, startCall, Feeding, fedNothing, feedRefusal, feedCall, holdRefusal, holdCall, releaseRefusal, releaseCall, Refreshing, refreshRefusal, refreshCall}
-use Rattle.kept.specs.Sized.{Sized}
-use Rattle.kept.proofs.Sized.{start-sized, feed-sized, hold-sized, release-sized, refresh-sized}
-use Rattle.kept.proofs.Joined.{run-refusal}
-use Rattle.kept.proofs.Tests.{by-cond}
-use Rattle.encoder.specs.Bytes.{recordLength, encoded}
-use Rattle.codec.specs.Record.{stateOf}
-use Rattle.codec.proofs.Back.{record-sized, read-back, other-bytes}
+use Rattle.laws_state.specs.Sized.{Sized}
+use Rattle.laws_state.proofs.Sized.{start-sized, feed-sized, hold-sized, release-sized, refresh-sized}
+use Rattle.laws_state.proofs.Joined.{run-refusal}
+use Rattle.laws_state.proofs.Tests.{by-cond}
+use Rattle.record_write.specs.Bytes.{recordLength, encoded}
+use Rattle.record_read.specs.Record.{stateOf}
+use Rattle.record_read.proofs.Back.{record-sized, read-back, other-bytes}
 use Rattle.panel_c.specs.Face.{recordAfter, startC, fed, feeding, feedC, calling, holdC, releaseC, moved, refreshing, refreshC}
 
 -- ---- other bytes are answered 8

@@ -10,8 +10,8 @@ use Rattle.paper.specs.declared.State.{State}
 use Rattle.paper.specs.Panel.{panel}
 use Rattle.paper.specs.Numbers.{refusalNumber, outcomeNumber}
 use Rattle.paper.specs.Calls.{isNot, Starting, startCall, Feeding, feedCall, holdCall, releaseCall, Refreshing, refreshCall}
-use Rattle.encoder.specs.Bytes.{recordLength, encoded}
-use Rattle.codec.specs.Record.{stateOf}
+use Rattle.record_write.specs.Bytes.{recordLength, encoded}
+use Rattle.record_read.specs.Record.{stateOf}
 use Rattle.panel_c.specs.declared.PanelFed.{PanelFed}
 use Rattle.panel_c.specs.declared.PanelRefreshed.{PanelRefreshed}
 

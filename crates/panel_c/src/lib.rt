@@ -7,7 +7,7 @@ use paper::State;
 ghost use mathlib.Core.Path.{_≡_};
 ghost use lib.ListN.{length};
 ghost use Rattle.paper.specs.Numbers.{refusalNumber, outcomeNumber};
-ghost use Rattle.encoder.specs.Bytes.{recordLength};
+ghost use Rattle.record_write.specs.Bytes.{recordLength};
 ghost use Rattle.panel_c.specs.Face.{recordAfter, starting, startC, feeding, feedC, calling, holdC, releaseC, refreshing, refreshC};
 
 // The length of a record, and the answer to a record of another length: no number of document 01.
@@ -73,7 +73,7 @@ fn keep(answer: u32, s: State, to: &mut [u8])
     ensures { λ r. ⌜ now (to .exit) ≡ recordAfter answer s (now (to .entry)) ⌝ }
 {
     if answer == 0 {
-        encoder::encode(s, to);
+        record_write::encode(s, to);
     }
 }
 
@@ -90,7 +90,7 @@ pub extern "C" fn panel_start(state: &mut [u8], mem: &mut [u8]) -> u32
     let a = panel::start(mem);
     let s = a.state;
     let refusal = a.refusal;
-    encoder::encode(s, state);
+    record_write::encode(s, state);
     refusal_number(refusal)
 }
 
@@ -112,7 +112,7 @@ pub extern "C" fn panel_feed(
             answered: 0,
         };
     }
-    let s = codec::state_of(state);
+    let s = record_read::state_of(state);
     let f = panel::feed(mem, font, piece, s);
     let fed = f.state;
     let refusal = f.refusal;
@@ -135,7 +135,7 @@ pub extern "C" fn panel_hold(state: &mut [u8], window: usize) -> u32
     if state.len() != RECORD {
         return WRONG_LENGTH;
     }
-    let s = codec::state_of(state);
+    let s = record_read::state_of(state);
     let a = panel::hold(s, window);
     let held = a.state;
     let refusal = a.refusal;
@@ -152,7 +152,7 @@ pub extern "C" fn panel_release(state: &mut [u8]) -> u32
     if state.len() != RECORD {
         return WRONG_LENGTH;
     }
-    let s = codec::state_of(state);
+    let s = record_read::state_of(state);
     let a = panel::release(s);
     let released = a.state;
     let refusal = a.refusal;
@@ -172,7 +172,7 @@ pub extern "C" fn panel_refresh(state: &mut [u8], mem: &[u8], glass: &mut [u8]) 
             moved: 0,
         };
     }
-    let s = codec::state_of(state);
+    let s = record_read::state_of(state);
     let r = panel::refresh(mem, glass, s);
     let emptied = r.state;
     let refusal = r.refusal;

@@ -12,9 +12,9 @@ use Rattle.paper.specs.declared.Span.{Span}
 use Rattle.paper.specs.declared.Style.{Style}
 use Rattle.paper.specs.Strokes.{applyAll}
 use Rattle.paper.specs.Carry.{imageStrokes}
-use Rattle.kept.specs.Runs.{Image, image, storedOn, picturesOf}
-use Rattle.kept.proofs.Runs.{column-next}
-use Rattle.kept.proofs.Taken.{pictures-more, pictures-whole, pictures-end}
+use Rattle.laws_state.specs.Runs.{Image, image, storedOn, picturesOf}
+use Rattle.laws_state.proofs.Runs.{column-next}
+use Rattle.laws_state.proofs.Taken.{pictures-more, pictures-whole, pictures-end}
 use Rattle.moves.specs.declared.Pen.{Pen}
 use Rattle.runs.specs.declared.Place.{Place}
 use Rattle.runs.specs.Runs.{placeAfter, marksTo, filledTo, Stocked}

@@ -15,8 +15,8 @@ use Rattle.paper.specs.Cells.{cellWidth, cellHeight, drawStroke}
 use Rattle.paper.specs.Moves.{to, htOf, drawTab, characterOf}
 use Rattle.cells.specs.Drawn.{drawn}
 use Rattle.cells.proofs.Strokes.{drawn-stroke}
-use Rattle.dots.specs.Spans.{markRect}
-use Rattle.dots.proofs.Tests.{and-parts}
+use Rattle.laws_memory.specs.Spans.{markRect}
+use Rattle.laws_memory.proofs.Tests.{and-parts}
 use Rattle.moves.specs.declared.Pen.{Pen}
 use Rattle.moves.specs.Does.{Does, pen}
 use Rattle.moves.proofs.Done.{does-only}

@@ -8,7 +8,7 @@ use lib.Dec.{leb, ltb, eqb}
 use borrow.Author.Tests.{leb-true, ltb-true, ltb-false, lt-ltb, le-ltb, ne-eqb}
 use Rattle.paper.specs.declared.Span.{Span}
 use Rattle.paper.specs.Strokes.{spanOf, isNothing, among, grown}
-use Rattle.dots.specs.Spans.{grownRect, markRectFrom, markRect}
+use Rattle.laws_memory.specs.Spans.{grownRect, markRectFrom, markRect}
 
 -- ---- one span
 

@@ -14,9 +14,9 @@ use Rattle.paper.specs.declared.View.{View}
 use Rattle.paper.specs.Strokes.{applyAll, markAll}
 use Rattle.paper.specs.Cells.{imageStroke}
 use Rattle.paper.specs.Carry.{imageStrokes}
-use Rattle.dots.specs.Spans.{markRect}
-use Rattle.dots.proofs.Spans.{marked-rect}
-use Rattle.dots.proofs.Tests.{and-parts}
+use Rattle.laws_memory.specs.Spans.{markRect}
+use Rattle.laws_memory.proofs.Spans.{marked-rect}
+use Rattle.laws_memory.proofs.Tests.{and-parts}
 use Rattle.cells.specs.Drawn.{imaged}
 use Rattle.runs.specs.Runs.{placeAfter, rowMark, bottomOf, marksTo}
 use Rattle.runs.proofs.Marks.{mark-at, mark-none, mark-flat, mark-beside, mark-swap}

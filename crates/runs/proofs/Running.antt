@@ -13,13 +13,13 @@ use Rattle.paper.specs.declared.Style.{Style}
 use Rattle.paper.specs.declared.View.{View}
 use Rattle.paper.specs.Cells.{cellWidth, cellHeight}
 use Rattle.paper.specs.Moves.{to, characterOf}
-use Rattle.kept.specs.Room.{InMemory, Room}
-use Rattle.kept.specs.Runs.{Sheet, writtenOn, Written, written, charactersOf, Within}
-use Rattle.kept.proofs.Moves.{character-kept}
-use Rattle.kept.proofs.Runs.{within-kept, within-room}
-use Rattle.kept.proofs.Taken.{characters-more, characters-stop, characters-end}
-use Rattle.dots.specs.Spans.{markRect}
-use Rattle.dots.proofs.Tests.{eq-cases, and-parts}
+use Rattle.laws_state.specs.Room.{InMemory, Room}
+use Rattle.laws_state.specs.Runs.{Sheet, writtenOn, Written, written, charactersOf, Within}
+use Rattle.laws_state.proofs.Moves.{character-kept}
+use Rattle.laws_state.proofs.Runs.{within-kept, within-room}
+use Rattle.laws_state.proofs.Taken.{characters-more, characters-stop, characters-end}
+use Rattle.laws_memory.specs.Spans.{markRect}
+use Rattle.laws_memory.proofs.Tests.{eq-cases, and-parts}
 use Rattle.moves.specs.declared.Pen.{Pen}
 use Rattle.moves.specs.Does.{Does, pen}
 use Rattle.cells.specs.Drawn.{drawn}

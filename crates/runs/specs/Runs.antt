@@ -10,8 +10,8 @@ use Rattle.paper.specs.declared.Span.{Span}
 use Rattle.paper.specs.declared.Style.{Style}
 use Rattle.paper.specs.declared.View.{View}
 use Rattle.paper.specs.Moves.{to}
-use Rattle.dots.specs.Spans.{markRect}
-use Rattle.kept.specs.Runs.{Sheet, sheet, written, charactersOf, Within, Image, image, stored, picturesOf}
+use Rattle.laws_memory.specs.Spans.{markRect}
+use Rattle.laws_state.specs.Runs.{Sheet, sheet, written, charactersOf, Within, Image, image, stored, picturesOf}
 use Rattle.moves.specs.declared.Pen.{Pen}
 use Rattle.moves.specs.Does.{pen}
 use Rattle.runs.specs.declared.Drawn.{Drawn}

@@ -13,8 +13,8 @@ ghost use lib.ListN.{length, getD};
 ghost use Rattle.paper.specs.Strokes.{applyAll};
 ghost use Rattle.paper.specs.Cells.{cellWidth, cellHeight};
 ghost use Rattle.paper.specs.Carry.{imageStrokes};
-ghost use Rattle.dots.specs.Rectangles.{Fits};
-ghost use Rattle.kept.specs.Room.{Usable, InMemory, Room};
+ghost use Rattle.laws_memory.specs.Rectangles.{Fits};
+ghost use Rattle.laws_state.specs.Room.{Usable, InMemory, Room};
 ghost use Rattle.text.specs.Inked.{Inked};
 ghost use Rattle.runs.specs.Runs.{Went, Ran, penAt, drawnTo, placeAfter, rowMark, filledTo, Stocked};
 

@@ -10,10 +10,10 @@ use Rattle.paper.specs.declared.View.{View}
 use Rattle.paper.specs.Strokes.{Stroke, applied}
 use Rattle.paper.specs.Cells.{cellWidth, cellHeight}
 use Rattle.paper.specs.Moves.{Moved, writing, andThen, htOf}
-use Rattle.dots.specs.Rectangles.{Fits}
-use Rattle.dots.specs.Spans.{markRect}
-use Rattle.kept.specs.Room.{Usable, Room, Kept}
-use Rattle.kept.proofs.Moves.{kept-room}
+use Rattle.laws_memory.specs.Rectangles.{Fits}
+use Rattle.laws_memory.specs.Spans.{markRect}
+use Rattle.laws_state.specs.Room.{Usable, Room, Kept}
+use Rattle.laws_state.proofs.Moves.{kept-room}
 use Rattle.moves.specs.declared.Pen.{Pen}
 use Rattle.moves.specs.Does.{Does}
 use Rattle.moves.proofs.Done.{does-stroke, does-after}

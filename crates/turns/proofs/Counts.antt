@@ -10,8 +10,8 @@ use Rattle.paper.specs.declared.Outcome.the-variants.{Unfinished, Carried, OutO
 use Rattle.paper.specs.Numbers.{carriedBy, answeredBy}
 use Rattle.paper.specs.Carry.{Meaning}
 use Rattle.paper.specs.Calls.{feeding, counted}
-use Rattle.commands.specs.declared.Done.{Done}
-use Rattle.writes.specs.Does.{Does}
+use Rattle.carry_state.specs.declared.Done.{Done}
+use Rattle.carry_dots.specs.Does.{Does}
 use Rattle.turns.specs.Turns.{fed}
 
 -- a byte finishes at most one command

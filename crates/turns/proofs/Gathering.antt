@@ -20,12 +20,12 @@ use Rattle.paper.specs.Reading.{readOf}
 use Rattle.paper.specs.Settings.{withHalf, viewOf}
 use Rattle.paper.specs.Carry.{takeOf, byteMeans}
 use Rattle.paper.specs.Calls.{Feeding, feeding, counted, next}
-use Rattle.laws.specs.Readings.{readingOk}
-use Rattle.laws.proofs.Readings.{reads-ok}
-use Rattle.kept.specs.Runs as reached
-use Rattle.kept.specs.Runs.{Reaches}
-use Rattle.kept.proofs.Reached.{reaches-next}
-use Rattle.kept.proofs.Taken.{from-here}
+use Rattle.laws_bytes.specs.Readings.{readingOk}
+use Rattle.laws_bytes.proofs.Readings.{reads-ok}
+use Rattle.laws_state.specs.Runs as reached
+use Rattle.laws_state.specs.Runs.{Reaches}
+use Rattle.laws_state.proofs.Reached.{reaches-next}
+use Rattle.laws_state.proofs.Taken.{from-here}
 use Rattle.turns.specs.Turns.{Gathers, here, byte}
 
 module _ {g : Geometry} where

@@ -19,18 +19,18 @@ use Rattle.paper.specs.declared.State.{State}
 use Rattle.paper.specs.declared.View.{View}
 use Rattle.paper.specs.Bounds.{halfOk, accepted}
 use Rattle.paper.specs.Reading.{between}
-use Rattle.laws.proofs.Tests.{both-of, between-facts}
-use Rattle.commands.proofs.Facts.{selected-small}
-use Rattle.kept.proofs.Parts.{parts}
+use Rattle.laws_bytes.proofs.Tests.{both-of, between-facts}
+use Rattle.carry_state.proofs.Facts.{selected-small}
+use Rattle.laws_state.proofs.Parts.{parts}
 use Rattle.paper.specs.Settings.{withHalf, withSpans, withView, viewOf}
 use Rattle.paper.specs.Calls.{Feeding, feeding, next}
-use Rattle.kept.specs.Room.{Usable}
-use Rattle.kept.specs.Runs.{Reaches, Sheet, sheet, Written, written, charactersOf, onSheet, Within, Image, image, Stored, stored, picturesOf, outcomeAt, doneAt, onImage}
-use Rattle.kept.proofs.Views.{view-place}
-use Rattle.kept.proofs.Sheets.{view-same}
-use Rattle.kept.proofs.Reached.{reaches-next}
-use Rattle.kept.proofs.Runs.{penned, penned-within, character-next, characters-reached, pictures-reached}
-use Rattle.kept.proofs.Taken.{from-here}
+use Rattle.laws_state.specs.Room.{Usable}
+use Rattle.laws_state.specs.Runs.{Reaches, Sheet, sheet, Written, written, charactersOf, onSheet, Within, Image, image, Stored, stored, picturesOf, outcomeAt, doneAt, onImage}
+use Rattle.laws_state.proofs.Views.{view-place}
+use Rattle.laws_state.proofs.Sheets.{view-same}
+use Rattle.laws_state.proofs.Reached.{reaches-next}
+use Rattle.laws_state.proofs.Runs.{penned, penned-within, character-next, characters-reached, pictures-reached}
+use Rattle.laws_state.proofs.Taken.{from-here}
 use Rattle.turns.specs.Turns.{fed, Drawable}
 
 -- ---- characters

@@ -14,8 +14,8 @@ use Rattle.paper.specs.declared.State.{State}
 use Rattle.paper.specs.Panel.{fontLength}
 use Rattle.paper.specs.Reading.{readOf}
 use Rattle.paper.specs.Carry.{exceeds}
-use Rattle.kept.specs.Runs.{Reaches}
-use Rattle.writes.specs.Does.{Ready}
+use Rattle.laws_state.specs.Runs.{Reaches}
+use Rattle.carry_dots.specs.Does.{Ready}
 use Rattle.turns.specs.declared.Turn.{Turn}
 use Rattle.paper.specs.Calls.{Feeding}
 

@@ -74,10 +74,10 @@ fn is_drawn(g: Geometry, s: State, b: u8) -> bool
         return false;
     }
     if is_nothing(half) {
-        let p = writes::pen_of(g, s);
+        let p = carry_dots::pen_of(g, s);
         let v = s.settings;
         let style = v.style;
-        return !commands::is_too_large(p.view, v.width, style);
+        return !carry_state::is_too_large(p.view, v.width, style);
     }
     false
 }
@@ -88,13 +88,13 @@ fn feed_characters(g: Geometry, mem: &mut [u8], font: &[u8], piece: &[u8], f: Fe
     ensures { λ r. ⌜ Turned g (now (font .entry)) f (now (mem .entry)) (now (piece .entry)) i r (now (mem .exit)) ⌝ }
 {
     let s = f.state;
-    let p = writes::pen_of(g, s);
+    let p = carry_dots::pen_of(g, s);
     let v = s.settings;
     let style = v.style;
     let r = runs::run(g, mem, font, p, v.width, style, piece, i);
     let at = r.at;
     let q = r.pen;
-    let state = writes::settle(s, q);
+    let state = carry_dots::settle(s, q);
     let refusal = f.refusal;
     let fed = Fed {
         refusal,
@@ -123,7 +123,7 @@ fn feed_pictures(
     ensures { λ r. ⌜ Turned g (now (font .entry)) f (now (mem .entry)) (now (piece .entry)) i r (now (mem .exit)) ⌝ }
 {
     let s = f.state;
-    let p = writes::pen_of(g, s);
+    let p = carry_dots::pen_of(g, s);
     let v = s.settings;
     let refusal = f.refusal;
     let style = v.style;

@@ -10,7 +10,7 @@ fn write_drawn(glass: &[u8], note: &[u8])
     requires { ⌜ length (now glass) ≡ 224 ⌝ }
 {
     let mut out = [0u8; 4096];
-    let n = picture::draw(&mut out, glass);
+    let n = view_picture::draw(&mut out, glass);
     io::write_all(STDOUT_FILENO, view_text::part(&out, 0, n));
     io::write_all(STDOUT_FILENO, note);
 }
@@ -20,7 +20,7 @@ fn write_pbm(glass: &[u8])
     requires { ⌜ length (now glass) ≡ 224 ⌝ }
 {
     let mut out = [0u8; 256];
-    let n = picture::pbm(&mut out, glass);
+    let n = view_picture::pbm(&mut out, glass);
     io::write_all(STDOUT_FILENO, view_text::part(&out, 0, n));
 }
 
@@ -36,7 +36,7 @@ fn write_as(word: &[u8], glass: &[u8], note: &[u8])
         write_pbm(glass);
         return;
     }
-    viewer::complain(b"an argument that is neither draw nor pbm");
+    view_io::complain(b"an argument that is neither draw nor pbm");
 }
 
 // Writes the glass as argument i asks.
@@ -60,7 +60,7 @@ fn write_all(glass: &[u8], note: &[u8])
 fn main() {
     let mut glass = [0u8; 224];
     let mut note = [0u8; 256];
-    if !viewer::read_glass(&mut glass) {
+    if !view_io::read_glass(&mut glass) {
         return;
     }
     let n = io::read_full(STDIN_FILENO, &mut note);

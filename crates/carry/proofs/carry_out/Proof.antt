@@ -4,11 +4,11 @@ use mathlib.Core.Path.{refl}
 use borrow.Author.Tests.{leb-true}
 use Rattle.paper.specs.declared.Command.the-variants.{Uncarried}
 use Rattle.paper.specs.Carry.{notCarried}
-use Rattle.laws.specs.Readings.{commandOk}
-use Rattle.laws.proofs.Tests.{between-facts}
-use Rattle.commands.proofs.Answers.{is-14}
-use Rattle.commands.proofs.Facts.{selected-small}
-use Rattle.writes.proofs.Wrote.{does-answer, does-quiet}
+use Rattle.laws_bytes.specs.Readings.{commandOk}
+use Rattle.laws_bytes.proofs.Tests.{between-facts}
+use Rattle.carry_state.proofs.Answers.{is-14}
+use Rattle.carry_state.proofs.Facts.{selected-small}
+use Rattle.carry_dots.proofs.Wrote.{does-answer, does-quiet}
 use Rattle.carry.proofs.carry_out.Statement.{statement}
 use Rattle.carry.proofs.carry_out.Tie as tie
 

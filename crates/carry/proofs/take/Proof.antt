@@ -6,10 +6,10 @@ use Rattle.paper.specs.declared.Half.the-variants.{Nothing}
 use Rattle.paper.specs.declared.Outcome.the-variants.{Unfinished, Carried}
 use Rattle.paper.specs.Bounds.{halfOk}
 use Rattle.paper.specs.Carry.{takeOf}
-use Rattle.laws.specs.Readings.{readingOk}
-use Rattle.kept.proofs.Views.{view-place}
-use Rattle.commands.proofs.Facts.{selected-small}
-use Rattle.writes.proofs.Wrote.{does-answer, does-picture, ready-half}
+use Rattle.laws_bytes.specs.Readings.{readingOk}
+use Rattle.laws_state.proofs.Views.{view-place}
+use Rattle.carry_state.proofs.Facts.{selected-small}
+use Rattle.carry_dots.proofs.Wrote.{does-answer, does-picture, ready-half}
 use Rattle.carry.proofs.take.Statement.{statement}
 use Rattle.carry.proofs.take.Tie as tie
 

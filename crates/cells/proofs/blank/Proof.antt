@@ -7,8 +7,8 @@ use lib.Dec.{eqb}
 use lib.ListN.{length}
 use Rattle.paper.specs.Strokes.{rectMap}
 use Rattle.paper.specs.Cells.{allOff}
-use Rattle.laws.proofs.Drawn.{blank-byte}
-use Rattle.dots.proofs.Rects.{rect-none}
+use Rattle.laws_bytes.proofs.Drawn.{blank-byte}
+use Rattle.laws_memory.proofs.Rects.{rect-none}
 use Rattle.cells.specs.Drawn.{blanked}
 use Rattle.cells.proofs.Columns.{either, inked, cell-turn, cell-end}
 use Rattle.cells.proofs.blank.Statement.{statement}

@@ -4,7 +4,7 @@ use Prim.Native.Nat.{_≤_, _-_}
 use borrow.Author.Needs.{needs}
 use native.Mathlib.Omega.{arith}
 use lib.ListN.{length}
-use Rattle.dots.proofs.Rects.{rect-none, row-end}
+use Rattle.laws_memory.proofs.Rects.{rect-none, row-end}
 use Rattle.cells.specs.Columns.{stamped}
 use Rattle.cells.proofs.Stamps.{stamp-turn}
 use Rattle.cells.proofs.stamp_columns.Statement.{statement}

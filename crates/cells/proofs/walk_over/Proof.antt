@@ -7,9 +7,9 @@ use native.Mathlib.Omega.{arith}
 use lib.ListN.{length}
 use Rattle.paper.specs.Strokes.{rectMap}
 use Rattle.paper.specs.Cells.{cellDot}
-use Rattle.laws.specs.Bytes.{cellByte}
-use Rattle.laws.proofs.Drawn.{cell-byte}
-use Rattle.dots.proofs.Rects.{rect-none}
+use Rattle.laws_bytes.specs.Bytes.{cellByte}
+use Rattle.laws_bytes.proofs.Drawn.{cell-byte}
+use Rattle.laws_memory.proofs.Rects.{rect-none}
 use Rattle.cells.specs.Drawn.{drawn}
 use Rattle.cells.proofs.Columns.{inked, cell-turn, cell-end}
 use Rattle.cells.proofs.Walks.{Walked, walked-next, walked-row}

@@ -3,7 +3,7 @@ use mathlib.Core.Path.{refl}
 use Prim.Native.Nat.{_<_}
 use native.Mathlib.Omega.{arith}
 use Rattle.paper.specs.Panel.{memoryLength, address}
-use Rattle.dots.proofs.Addresses.{address-lt}
+use Rattle.laws_memory.proofs.Addresses.{address-lt}
 use Rattle.dots.proofs.at.Statement.{statement}
 use Rattle.dots.proofs.at.Tie as tie
 

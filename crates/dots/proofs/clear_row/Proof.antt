@@ -3,8 +3,8 @@ use mathlib.Core.Path.{_≡_, refl}
 use Prim.Native.Nat.{_≤_, _-_}
 use native.Mathlib.Omega.{arith}
 use lib.ListN.{length, length-set}
-use Rattle.dots.specs.Rectangles.{cleared}
-use Rattle.dots.proofs.Rects.{rect-none, row-turn, row-end}
+use Rattle.laws_memory.specs.Rectangles.{cleared}
+use Rattle.laws_memory.proofs.Rects.{rect-none, row-turn, row-end}
 use Rattle.dots.proofs.clear_row.Statement.{statement}
 use Rattle.dots.proofs.clear_row.Tie as tie
 

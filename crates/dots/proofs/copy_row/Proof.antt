@@ -7,10 +7,10 @@ use native.Mathlib.Omega.{arith}
 use lib.ListN.{length, getD}
 use Rattle.paper.specs.Panel.{address, glassLength}
 use Rattle.paper.specs.Strokes.{rectMap}
-use Rattle.dots.specs.Glass.{copied}
-use Rattle.dots.proofs.Addresses.{address-lt}
-use Rattle.dots.proofs.Rects.{rect-none, row-turn, row-end}
-use Rattle.dots.proofs.Glass.{shown-lt}
+use Rattle.laws_memory.specs.Glass.{copied}
+use Rattle.laws_memory.proofs.Addresses.{address-lt}
+use Rattle.laws_memory.proofs.Rects.{rect-none, row-turn, row-end}
+use Rattle.laws_memory.proofs.Glass.{shown-lt}
 use Rattle.dots.proofs.copy_row.Statement.{statement}
 use Rattle.dots.proofs.copy_row.Tie as tie
 

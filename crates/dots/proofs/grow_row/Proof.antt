@@ -1,8 +1,8 @@
 -- `dots::grow_row` meets its contract: its test is the definition's. Assumes nothing.
 use borrow.Author.Needs.{needs}
 use borrow.Author.Tests.{ltb-true}
-use Rattle.dots.specs.Spans.{grownRect}
-use Rattle.dots.proofs.Tests.{and-parts}
+use Rattle.laws_memory.specs.Spans.{grownRect}
+use Rattle.laws_memory.proofs.Tests.{and-parts}
 use Rattle.dots.proofs.grow_row.Statement.{statement}
 use Rattle.dots.proofs.grow_row.Tie as tie
 

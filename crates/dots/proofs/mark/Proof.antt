@@ -3,7 +3,7 @@ use mathlib.Core.Path.{ap₂, _∙_}
 use mathlib.Core.List.{[], _∷_}
 use Rattle.paper.specs.declared.Span.{Span}
 use borrow.Author.Needs.{needs}
-use Rattle.dots.proofs.Spans.{mark-two}
+use Rattle.laws_memory.proofs.Spans.{mark-two}
 use Rattle.dots.proofs.mark.Statement.{statement}
 use Rattle.dots.proofs.mark.Tie as tie
 

@@ -1,7 +1,7 @@
 -- `dots::move_left` meets its contract. The columns kept come from the right; the rest is zeroed. Assumes nothing.
 use borrow.Author.Needs.{needs}
 use native.Mathlib.Omega.{arith}
-use Rattle.dots.proofs.Pulls.{moved-parts}
+use Rattle.laws_memory.proofs.Pulls.{moved-parts}
 use Rattle.dots.proofs.move_left.Statement.{statement}
 use Rattle.dots.proofs.move_left.Tie as tie
 

@@ -3,9 +3,9 @@ use mathlib.Core.Path.{_≡_, refl}
 use Prim.Native.Nat.{_≤_, _-_}
 use native.Mathlib.Omega.{arith}
 use lib.ListN.{length}
-use Rattle.dots.specs.Rectangles.{pulled}
-use Rattle.dots.proofs.Rects.{rect-none, rect-end}
-use Rattle.dots.proofs.Pulls.{pull-turn}
+use Rattle.laws_memory.specs.Rectangles.{pulled}
+use Rattle.laws_memory.proofs.Rects.{rect-none, rect-end}
+use Rattle.laws_memory.proofs.Pulls.{pull-turn}
 use Rattle.dots.proofs.pull.Statement.{statement}
 use Rattle.dots.proofs.pull.Tie as tie
 

@@ -2,8 +2,8 @@
 use mathlib.Core.Path.{refl}
 use borrow.Author.Needs.{needs}
 use native.Mathlib.Omega.{arith}
-use Rattle.dots.specs.Rectangles.{stored}
-use Rattle.dots.proofs.Rects.{rect-one}
+use Rattle.laws_memory.specs.Rectangles.{stored}
+use Rattle.laws_memory.proofs.Rects.{rect-one}
 use Rattle.dots.proofs.put.Statement.{statement}
 use Rattle.dots.proofs.put.Tie as tie
 

@@ -7,7 +7,7 @@ use native.Mathlib.Omega.{arith}
 use lib.ListN.{length, getD, take}
 use lib.Seq.{take-all}
 use Rattle.paper.specs.Strokes.{noSpan, refreshed, shownAll}
-use Rattle.dots.proofs.Glass.{refreshed-none, refreshed-turn, shown-turn, shown-le, visible-small}
+use Rattle.laws_memory.proofs.Glass.{refreshed-none, refreshed-turn, shown-turn, shown-le, visible-small}
 use Rattle.dots.proofs.refresh.Statement.{statement}
 use Rattle.dots.proofs.refresh.Tie as tie
 

@@ -1,7 +1,7 @@
 -- `dots::scroll_up` meets its contract. The rows kept come from below; the rest is zeroed. Assumes nothing.
 use borrow.Author.Needs.{needs}
 use native.Mathlib.Omega.{arith}
-use Rattle.dots.proofs.Pulls.{scrolled-parts}
+use Rattle.laws_memory.proofs.Pulls.{scrolled-parts}
 use Rattle.dots.proofs.scroll_up.Statement.{statement}
 use Rattle.dots.proofs.scroll_up.Tie as tie
 

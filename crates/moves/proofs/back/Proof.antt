@@ -4,7 +4,7 @@ use lib.Dec.{leb, eqb, leb→le}
 use borrow.Author.Tests.{le-leb, lt-leb}
 use borrow.Author.Needs.{needs}
 use Rattle.paper.specs.Moves.{backOf}
-use Rattle.dots.proofs.Tests.{and-1}
+use Rattle.laws_memory.proofs.Tests.{and-1}
 use Rattle.moves.proofs.back.Statement.{statement}
 use Rattle.moves.proofs.back.Tie as tie
 

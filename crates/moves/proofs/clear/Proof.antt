@@ -1,7 +1,7 @@
 -- `moves::clear` meets its contract. Assumes nothing.
 use borrow.Author.Needs.{needs}
 use Rattle.paper.specs.Moves.{clearOf}
-use Rattle.dots.specs.Rectangles.{cleared}
+use Rattle.laws_memory.specs.Rectangles.{cleared}
 use Rattle.moves.proofs.Done.{does-stroke}
 use Rattle.moves.proofs.clear.Statement.{statement}
 use Rattle.moves.proofs.clear.Tie as tie

@@ -1,7 +1,7 @@
 -- `moves::push_left` meets its contract. Assumes nothing.
 use borrow.Author.Needs.{needs}
 use Rattle.paper.specs.Moves.{pushLeft}
-use Rattle.dots.specs.Rectangles.{movedLeft}
+use Rattle.laws_memory.specs.Rectangles.{movedLeft}
 use Rattle.moves.proofs.Done.{does-stroke}
 use Rattle.moves.proofs.push_left.Statement.{statement}
 use Rattle.moves.proofs.push_left.Tie as tie

@@ -1,7 +1,7 @@
 -- `moves::scroll` meets its contract. Assumes nothing.
 use mathlib.Core.Path.{refl}
 use borrow.Author.Needs.{needs}
-use Rattle.dots.specs.Rectangles.{scrolledUp}
+use Rattle.laws_memory.specs.Rectangles.{scrolledUp}
 use Rattle.moves.proofs.Done.{does-stroke}
 use Rattle.moves.proofs.scroll.Statement.{statement}
 use Rattle.moves.proofs.scroll.Tie as tie

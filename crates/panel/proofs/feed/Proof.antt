@@ -4,7 +4,7 @@ use mathlib.Core.Path.{refl, sym, ap, _∙_}
 use native.Mathlib.Omega.{arith}
 use Rattle.paper.specs.declared.Fed.{Fed}
 use Rattle.paper.specs.Panel.{panel}
-use Rattle.kept.proofs.Views.{panel-usable}
+use Rattle.laws_state.proofs.Views.{panel-usable}
 use Rattle.panel.specs.Told.{fed}
 use Rattle.panel.proofs.Starts.{feed-memory, feed-font, feed-broken, feed-accepted}
 use Rattle.panel.proofs.feed.Statement.{statement}

@@ -12,8 +12,8 @@ use Rattle.paper.specs.declared.State.{State}
 use Rattle.paper.specs.declared.Refusal.the-variants.{Accepted}
 use Rattle.paper.specs.Bounds.{accepted}
 use Rattle.paper.specs.Calls.{Feeding, run, fedNothing}
-use Rattle.kept.specs.Runs.{Reaches, here}
-use Rattle.kept.proofs.Reached.{reaches-on, reaches-run, reaches-accepted, reaches-counts}
+use Rattle.laws_state.specs.Runs.{Reaches, here}
+use Rattle.laws_state.proofs.Reached.{reaches-on, reaches-run, reaches-accepted, reaches-counts}
 use Rattle.panel.specs.Told.{fed}
 use Rattle.panel.proofs.feed_all.Statement.{statement}
 use Rattle.panel.proofs.feed_all.Tie as tie

@@ -6,7 +6,7 @@ use borrow.Author.Tests.{not-true, not-false}
 use Rattle.paper.specs.declared.Refusal.the-variants.{Accepted}
 use Rattle.paper.specs.declared.State.{State}
 use Rattle.paper.specs.Calls.{answer}
-use Rattle.laws.proofs.Tests.{between-facts}
+use Rattle.laws_bytes.proofs.Tests.{between-facts}
 use Rattle.panel.proofs.Holds.{hold-broken, hold-held, hold-number, hold-undefined, hold-accepted}
 use Rattle.panel.proofs.hold.Statement.{statement}
 use Rattle.panel.proofs.hold.Tie as tie

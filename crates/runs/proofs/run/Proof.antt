@@ -5,7 +5,7 @@ use Prim.Native.Nat.{_+_, _-_, _<_, _≤_}
 use native.Mathlib.Omega.{arith}
 use lib.ListN.{length}
 use Rattle.paper.specs.Cells.{cellWidth, cellHeight}
-use Rattle.kept.proofs.Runs.{within-room}
+use Rattle.laws_state.proofs.Runs.{within-room}
 use Rattle.runs.specs.Runs.{drawnTo, Went}
 use Rattle.runs.proofs.Running.{went-begin, went-on, ran-stop, ran-end}
 use Rattle.runs.proofs.run.Statement.{statement}

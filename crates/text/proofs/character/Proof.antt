@@ -6,7 +6,7 @@ use borrow.Author.Tests.{le-leb, lt-leb, eq-eqb, ne-eqb}
 use borrow.Author.Needs.{needs}
 use Rattle.paper.specs.Cells.{cellWidth, cellHeight}
 use Rattle.paper.specs.Moves.{htOf, drawTab, blankTab, characterOf}
-use Rattle.kept.proofs.Moves.{ht-kept, blank-kept}
+use Rattle.laws_state.proofs.Moves.{ht-kept, blank-kept}
 use Rattle.moves.proofs.Done.{does-after}
 use Rattle.text.proofs.Steps.{ready-after}
 use Rattle.text.proofs.character.Statement.{statement}

@@ -2,11 +2,11 @@
 use borrow.Author.Needs.{needs}
 use native.Mathlib.Omega.{arith}
 use Rattle.paper.specs.Settings.{viewOf}
-use Rattle.commands.proofs.Facts.{selected-small}
-use Rattle.kept.proofs.Parts.{parts}
-use Rattle.kept.proofs.Views.{view-room}
+use Rattle.carry_state.proofs.Facts.{selected-small}
+use Rattle.laws_state.proofs.Parts.{parts}
+use Rattle.laws_state.proofs.Views.{view-room}
 use Rattle.runs.specs.Runs.{under}
-use Rattle.writes.proofs.Inks.{inks}
+use Rattle.carry_dots.proofs.Inks.{inks}
 use Rattle.turns.proofs.Turns.{characters-turn, settles-within}
 use Rattle.turns.proofs.feed_characters.Statement.{statement}
 use Rattle.turns.proofs.feed_characters.Tie as tie

@@ -3,8 +3,8 @@ use borrow.Author.Needs.{needs}
 use mathlib.Core.Path.{_≡_, refl, sym, _∙_}
 use Prim.Native.Nat.{_+_, _-_, _<_, _≤_}
 use native.Mathlib.Omega.{arith}
-use Rattle.laws.specs.Readings.{readingOk}
-use Rattle.kept.proofs.Parts.{parts}
+use Rattle.laws_bytes.specs.Readings.{readingOk}
+use Rattle.laws_state.proofs.Parts.{parts}
 use Rattle.paper.specs.Carry.{takeOf}
 use Rattle.turns.proofs.Counts.{carried-one, answered-one, counted-by}
 use Rattle.turns.proofs.Gathering.{gathers-ok, taken-reached}

@@ -2,9 +2,9 @@
 use borrow.Author.Needs.{needs}
 use borrow.Author.Tests.{eq-eqb, ne-eqb}
 use native.Mathlib.Omega.{arith}
-use Rattle.commands.proofs.Facts.{selected-small}
-use Rattle.kept.specs.Runs.{image}
-use Rattle.kept.proofs.Views.{view-place}
+use Rattle.carry_state.proofs.Facts.{selected-small}
+use Rattle.laws_state.specs.Runs.{image}
+use Rattle.laws_state.proofs.Views.{view-place}
 use Rattle.turns.proofs.Turns.{image-bounds, pictures-whole-turn, pictures-part-turn}
 use Rattle.turns.proofs.feed_pictures.Statement.{statement}
 use Rattle.turns.proofs.feed_pictures.Tie as tie

@@ -1,7 +1,7 @@
 -- `turns::feed_some` meets its contract: a run of characters, a run of an image's bytes, or a command's bytes. Assumes nothing.
 use borrow.Author.Needs.{needs}
 use native.Mathlib.Omega.{arith}
-use Rattle.commands.proofs.Facts.{selected-small}
+use Rattle.carry_state.proofs.Facts.{selected-small}
 use Rattle.turns.proofs.feed_some.Statement.{statement}
 use Rattle.turns.proofs.feed_some.Tie as tie
 

@@ -3,7 +3,7 @@ use borrow.Author.Needs.{needs}
 use mathlib.Core.Bool.{false, false≢true}
 use borrow.Author.Tests.{not-true}
 use native.Mathlib.Omega.{arith}
-use Rattle.writes.proofs.Wrote.{tested}
+use Rattle.carry_dots.proofs.Wrote.{tested}
 use Rattle.turns.proofs.is_drawn.Statement.{statement}
 use Rattle.turns.proofs.is_drawn.Tie as tie
 

@@ -1,0 +1,149 @@
+// Writes: the commands that write on memory, and an image's byte, each with the answers 15 and 16 that it can have.
+// It may use commands for the answer's form, windows for the state, and runs, moves, cells and dots for what is written.
+// Each contract says that what was done is what the paper's meaning says.
+use carry_state::Done;
+use moves::Pen;
+use paper::Command;
+use paper::Geometry;
+use paper::Outcome;
+use paper::Span;
+use paper::State;
+use paper::Style;
+ghost use mathlib.Core.Path.{_≡_};
+ghost use mathlib.Core.List.{List};
+ghost use Prim.Native.Nat.{ℕ, _+_, _≤_, _<_};
+ghost use lib.ListN.{length};
+ghost use Rattle.paper.specs.Panel.{fontLength};
+ghost use Rattle.paper.specs.Settings.{withView, withSpans, viewOf};
+ghost use Rattle.paper.specs.Carry.{isHeld, commandOf};
+ghost use Rattle.moves.specs.Does.{pen};
+ghost use Rattle.laws_memory.specs.Rectangles.{Fits};
+ghost use Rattle.laws_state.specs.Room.{Usable, InMemory};
+ghost use Rattle.carry_dots.specs.Does.{Ready, Does, Pictured};
+
+// ---- moves of the current window that write
+
+// The current window's range and cursor, and the spans.
+pub fn pen_of(g: Geometry, s: State) -> Pen
+    requires { ⌜ (s .selected ≤ 4) × (g .visible ≤ g .columns) ⌝ }
+    ensures { λ r. ⌜ r ≡ pen (viewOf g s) (s .spans) ⌝ }
+{
+    let view = state::view_of(g, s);
+    let spans = s.spans;
+    Pen { view, spans }
+}
+
+// The state after a move: the current window's cursor and the spans where the pen has them.
+pub fn settle(s: State, p: Pen) -> State
+    requires { ⌜ (s .selected ≤ 4) × (p .view .left + p .view .x < 65536) × (p .view .top + p .view .y < 65536) ⌝ }
+    ensures { λ r. ⌜ r ≡ withSpans (withView s (p .view)) (p .spans) ⌝ }
+{
+    let t = state::with_view(s, p.view);
+    let spans = p.spans;
+    State { spans, ..t }
+}
+
+// A character: a run of one.
+pub fn character(g: Geometry, mem: &mut [u8], font: &[u8], s: State, code: u8) -> Done
+    requires { ⌜ Ready g s (now mem) × ((length (now font) ≡ fontLength) × (0x20 ≤ code)) ⌝ }
+    ensures { λ r. ⌜ Does g (now (mem .entry)) r (now (mem .exit)) (commandOf g (now (font .entry)) s (Command.Character code)) ⌝ }
+{
+    let p = pen_of(g, s);
+    let v = s.settings;
+    let style = v.style;
+    let w = v.width;
+    if carry_state::is_too_large(p.view, w, style) {
+        return carry_state::ends(s, Outcome::TooLarge);
+    }
+    let alone = [code];
+    let r = runs::run(g, mem, font, p, w, style, &alone, 0);
+    let q = r.pen;
+    carry_state::ends(settle(s, q), Outcome::Carried)
+}
+
+// HT.
+pub fn tab(g: Geometry, mem: &mut [u8], s: State) -> Done
+    requires { ⌜ Ready g s (now mem) ⌝ }
+    ensures { λ r. ⌜ ((font : List ℕ) → Does g (now (mem .entry)) r (now (mem .exit)) (commandOf g font s Command.Tab)) ⌝ }
+{
+    let p = pen_of(g, s);
+    let v = s.settings;
+    let style = v.style;
+    let w = v.width;
+    if carry_state::is_too_large(p.view, w, style) {
+        return carry_state::ends(s, Outcome::TooLarge);
+    }
+    let c = cells::cell_width(w, style);
+    let q = moves::tab(g, mem, p, c, style.down as usize);
+    carry_state::ends(settle(s, q), Outcome::Carried)
+}
+
+// LF.
+pub fn line_feed(g: Geometry, mem: &mut [u8], s: State) -> Done
+    requires { ⌜ Ready g s (now mem) ⌝ }
+    ensures { λ r. ⌜ ((font : List ℕ) → Does g (now (mem .entry)) r (now (mem .exit)) (commandOf g font s Command.LineFeed)) ⌝ }
+{
+    let p = pen_of(g, s);
+    let v = s.settings;
+    let style = v.style;
+    let w = v.width;
+    if carry_state::is_too_large(p.view, w, style) {
+        return carry_state::ends(s, Outcome::TooLarge);
+    }
+    let q = moves::line_feed(g, mem, p, style.down as usize);
+    carry_state::ends(settle(s, q), Outcome::Carried)
+}
+
+// CLR.
+pub fn clear(g: Geometry, mem: &mut [u8], s: State) -> Done
+    requires { ⌜ Ready g s (now mem) ⌝ }
+    ensures { λ r. ⌜ ((font : List ℕ) → Does g (now (mem .entry)) r (now (mem .exit)) (commandOf g font s Command.Clear)) ⌝ }
+{
+    let p = pen_of(g, s);
+    let q = moves::clear(g, mem, p);
+    carry_state::ends(settle(s, q), Outcome::Carried)
+}
+
+// Initialise: the initial state, and all of memory zeroed.
+pub fn initialise(g: Geometry, mem: &mut [u8], s: State, held: bool) -> Done
+    requires { ⌜ Ready g s (now mem) × (held ≡ isHeld (s .hold)) ⌝ }
+    ensures { λ r. ⌜ ((font : List ℕ) → Does g (now (mem .entry)) r (now (mem .exit)) (commandOf g font s Command.Initialise)) ⌝ }
+{
+    if held {
+        return carry_state::ends(s, Outcome::WindowHeld);
+    }
+    dots::clear(g, mem, 0, 0, g.columns, g.rows);
+    let before = s.spans;
+    let spans = dots::mark(before, 0, 0, g.columns, g.rows);
+    let t = state::initial_state(g);
+    carry_state::ends(State { spans, ..t }, Outcome::Carried)
+}
+
+// ---- an image byte
+
+// One byte of an image, so far from the pen's cursor; outside the range it is consumed. The cursor stays. It knows no state, so
+// that the compiler need not lay one down for each byte.
+pub fn picture(
+    g: Geometry,
+    mem: &mut [u8],
+    p: Pen,
+    style: Style,
+    column: u16,
+    row: u16,
+    byte: u8,
+) -> [Span; 2]
+    requires { ⌜ Usable g × (InMemory g (p .view) × Fits g (now mem)) ⌝ }
+    ensures { λ r. ⌜ Pictured g p style column row byte (now (mem .entry)) r (now (mem .exit)) ⌝ }
+{
+    let v = p.view;
+    let before = p.spans;
+    let x = v.x + (column as usize);
+    let y = v.y + (row as usize);
+    if (x < v.width) & (y < v.height) {
+        let left = v.left + x;
+        let top = v.top + y;
+        cells::store(g, mem, style, left, top, byte);
+        return dots::mark(before, left, top, 1, 1);
+    }
+    before
+}

@@ -1,0 +1,61 @@
+-- What a command is answered, from the tests of document 01's order: 14, 15, 11, 17, 16, or carried out. Assumes nothing.
+use mathlib.Core.Path.{_≡_, sym, ap, _∙_}
+use mathlib.Core.Bool.{true, false, _&&_}
+use mathlib.Core.List.{List, []}
+use Prim.Native.Nat.{ℕ}
+use Rattle.paper.specs.declared.Geometry.{Geometry}
+use Rattle.paper.specs.declared.Command.{Command}
+use Rattle.paper.specs.declared.Outcome.{Outcome}
+use Rattle.paper.specs.declared.Outcome.the-variants.{OutOfDomain, NotCarried, WindowHeld, TooLarge, NotDefined}
+use Rattle.paper.specs.declared.State.{State}
+use Rattle.paper.specs.Carry.{Meaning, means, notCarried, isHeld, ownersOnly, outOfDomain, notDefined, cellExceeds, carriedOut, answers, commandOf}
+use Rattle.laws_state.proofs.Cases.{Allowed}
+use Rattle.carry_state.specs.declared.Done.{Done}
+use Rattle.carry_state.specs.Says.{Says, done}
+
+module _ (g : Geometry) (font : List ℕ) (s : State) (c : Command) where
+  -- a command that is not carried
+  pub is-14 : notCarried c ≡ true → commandOf g font s c ≡ answers s NotCarried
+  unfolding commandOf
+  is-14 a = rw a
+
+  -- an owner's command while a window is held
+  pub is-15 : notCarried c ≡ false → (ownersOnly c && isHeld (s .hold)) ≡ true → commandOf g font s c ≡ answers s WindowHeld
+  unfolding commandOf
+  is-15 a b = rw (a, b)
+
+  -- a parameter out of its domain
+  pub is-11 : notCarried c ≡ false → (ownersOnly c && isHeld (s .hold)) ≡ false → outOfDomain g s c ≡ true
+      → commandOf g font s c ≡ answers s OutOfDomain
+  unfolding commandOf
+  is-11 a b d = rw (a, b, d)
+
+  -- a window that is not defined
+  pub is-17 : notCarried c ≡ false → (ownersOnly c && isHeld (s .hold)) ≡ false → outOfDomain g s c ≡ false
+      → notDefined s c ≡ true → commandOf g font s c ≡ answers s NotDefined
+  unfolding commandOf
+  is-17 a b d e = rw (a, b, d, e)
+
+  -- a cell that exceeds the range
+  pub is-16 : notCarried c ≡ false → (ownersOnly c && isHeld (s .hold)) ≡ false → outOfDomain g s c ≡ false
+      → notDefined s c ≡ false → cellExceeds g s c ≡ true → commandOf g font s c ≡ answers s TooLarge
+  unfolding commandOf
+  is-16 a b d e f = rw (a, b, d, e, f)
+
+  -- none of these
+  pub is-10 : Allowed g s c → commandOf g font s c ≡ carriedOut g font s c
+  unfolding commandOf
+  is-10 a = rw (a .carried, a .owner, a .domain, a .defined, a .room)
+
+-- what ends as its meaning does says what it means
+pub says : {r : Done} {t : Meaning} {s : State} {o : Outcome} → r ≡ done s o → t ≡ means s o [] → Says r t
+says e f =
+    record {
+      state = ap (λ (d : Done). d .state) e ∙ sym (ap (λ (m : Meaning). m .state) f);
+      outcome = ap (λ (d : Done). d .outcome) e ∙ sym (ap (λ (m : Meaning). m .outcome) f);
+      quiet = ap (λ (m : Meaning). m .strokes) f;
+    }
+
+-- a result by an equal state
+pub ends-at : {r : Done} {t u : State} {o : Outcome} → r ≡ done t o → t ≡ u → r ≡ done u o
+ends-at {o = o} e f = e ∙ ap (λ (s : State). done s o) f

@@ -1,0 +1,83 @@
+-- `carry_state::set` meets its contract: 14, then 15, then 11. Assumes nothing.
+use borrow.Author.Needs.{needs}
+use mathlib.Core.Path.{refl, sym, ap, ap₂, _∙_}
+use mathlib.Core.Bool.{not, _&&_}
+use Rattle.paper.specs.declared.Command.the-variants.{Set}
+use Rattle.paper.specs.Carry.{notCarried, ownersOnly, outOfDomain, notDefined, cellExceeds, carriedOut}
+use Rattle.carry_state.proofs.Answers.{is-14, is-15, is-11, is-10, says, ends-at}
+use Rattle.paper.specs.declared.Settings.{Settings}
+use Rattle.paper.specs.Settings.{withSettings}
+use Rattle.carry_state.proofs.set.Statement.{statement}
+use Rattle.carry_state.proofs.set.Tie as tie
+
+not-carried-value-requires : tie.Need-not-carried-value-requires
+not-carried-value-requires c κs = search needs
+
+ends-requires : tie.Need-ends-requires
+ends-requires c κs = search needs
+
+returns : tie.Need-returns
+unfolding notCarried ownersOnly outOfDomain notDefined cellExceeds carriedOut
+returns c font = says (c .ends .ensures) (is-14 _ font _ (Set _ _) (sym (c .before .before .not-carried-value .ensures) ∙ c .before .if1 .taken))
+
+is-write-requires : tie.Need-is-write-requires
+is-write-requires c κs = search needs
+
+ends-requires-2 : tie.Need-ends-requires-2
+ends-requires-2 c κs = search needs
+
+returns-2 : tie.Need-returns-2
+unfolding notCarried ownersOnly outOfDomain notDefined cellExceeds carriedOut
+returns-2 c font = says (c .ends2 .ensures)
+    (is-15 _ font _ (Set _ _) (sym (c .before .before .before .before .not-carried-value .ensures) ∙ c .before .before .before .if1 .left)
+    (sym (ap₂ _&&_ (c .before .before .is-write .ensures) (c .before .before .before .before .before .pre)) ∙ c .before .if2 .taken))
+
+in-domain-requires : tie.Need-in-domain-requires
+in-domain-requires c κs = search needs
+
+with-setting-requires : tie.Need-with-setting-requires
+with-setting-requires c κs = search needs
+
+ends-requires-3 : tie.Need-ends-requires-3
+ends-requires-3 c κs = search needs
+
+returns-3 : tie.Need-returns-3
+unfolding notCarried ownersOnly outOfDomain notDefined cellExceeds carriedOut
+returns-3 c font = says
+    (ends-at (c .ends3 .ensures)
+    (ap (λ (v : Settings). withSettings (c .before .before .before .before .before .before .before .before .before .before .before .before .args .s) v) (c .before .before .before .before .with-setting .ensures)))
+    (is-10 _ font _ (Set _ _)
+    (record {
+      carried = sym (c .before .before .before .before .before .before .before .before .before .before .before .not-carried-value .ensures) ∙ c .before .before .before .before .before .before .before .before .before .before .if1 .left;
+      owner = sym (ap₂ _&&_ (c .before .before .before .before .before .before .before .before .before .is-write .ensures) (c .before .before .before .before .before .before .before .before .before .before .before .before .pre)) ∙ c .before .before .before .before .before .before .before .before .if2 .left;
+      domain = ap not (sym (c .before .before .before .before .before .before .before .in-domain .ensures) ∙ c .before .before .before .before .before .before .if3 .taken);
+      defined = refl;
+      room = refl;
+    }))
+
+ends-requires-4 : tie.Need-ends-requires-4
+ends-requires-4 c κs = search needs
+
+returns-4 : tie.Need-returns-4
+unfolding notCarried ownersOnly outOfDomain notDefined cellExceeds carriedOut
+returns-4 c font = says (c .ends4 .ensures)
+    (is-11 _ font _ (Set _ _) (sym (c .before .before .before .before .before .before .not-carried-value .ensures) ∙ c .before .before .before .before .before .if1 .left)
+    (sym (ap₂ _&&_ (c .before .before .before .before .is-write .ensures) (c .before .before .before .before .before .before .before .pre)) ∙ c .before .before .before .if2 .left)
+    (ap not (sym (c .before .before .in-domain .ensures) ∙ c .before .if3 .left)))
+
+pub set-spec : {M : Type 1} → statement M
+set-spec =
+    tie.close
+    (tie.spec
+    not-carried-value-requires
+    ends-requires
+    returns
+    is-write-requires
+    ends-requires-2
+    returns-2
+    in-domain-requires
+    with-setting-requires
+    ends-requires-3
+    returns-3
+    ends-requires-4
+    returns-4)

@@ -1,0 +1,190 @@
+// Commands: those that change the state and write nothing, each with its answers 14, 15, 11, 17, 16 in their order.
+// It may use windows for the state's parts and moves and cells for where a cursor goes; it knows nothing of memory.
+// Each contract says that the state and the outcome are those of the paper's meaning, and that the meaning has no strokes.
+use paper::Command;
+use paper::Cursor;
+use paper::Geometry;
+use paper::Key;
+use paper::Outcome;
+use paper::State;
+use paper::Style;
+use paper::View;
+ghost use mathlib.Core.Path.{_≡_};
+ghost use mathlib.Core.Bool.{true};
+ghost use mathlib.Core.List.{List};
+ghost use Prim.Native.Nat.{ℕ, _≤_, _<_};
+ghost use Rattle.paper.specs.Cells.{cellWidth, cellHeight, tooLarge};
+ghost use Rattle.paper.specs.Bounds.{accepted};
+ghost use Rattle.paper.specs.Carry.{isHeld, commandOf};
+ghost use Rattle.laws_state.specs.Room.{Usable};
+ghost use Rattle.carry_state.specs.Says.{Says, done};
+
+// What a command or a byte came to: the state afterwards, and the outcome.
+pub struct Done {
+    pub state: State,
+    pub outcome: Outcome,
+}
+
+// A command answered so, with the state as it is then.
+pub fn ends(state: State, outcome: Outcome) -> Done
+    ensures { λ r. ⌜ r ≡ done state outcome ⌝ }
+{
+    Done { state, outcome }
+}
+
+// Whether a cell exceeds the range.
+pub fn is_too_large(v: View, w: u8, style: Style) -> bool
+    ensures { λ r. ⌜ r ≡ tooLarge v (cellWidth w style) (cellHeight style) ⌝ }
+{
+    let c = cells::cell_width(w, style);
+    let l = style.down as usize;
+    (v.width < c) | (v.height < l)
+}
+
+// ---- moves of the current window's cursor
+
+// BS.
+pub fn back(g: Geometry, s: State) -> Done
+    requires { ⌜ Usable g × (accepted g s ≡ true) ⌝ }
+    ensures { λ r. ⌜ ((font : List ℕ) → Says r (commandOf g font s Command.Back)) ⌝ }
+{
+    let view = state::view_of(g, s);
+    let v = s.settings;
+    let style = v.style;
+    let w = v.width;
+    if is_too_large(view, w, style) {
+        return ends(s, Outcome::TooLarge);
+    }
+    let c = cells::cell_width(w, style);
+    let to = moves::back(view, c, style.down as usize);
+    ends(state::with_view(s, to), Outcome::Carried)
+}
+
+// HOM.
+pub fn home(g: Geometry, s: State) -> Done
+    requires { ⌜ Usable g × (accepted g s ≡ true) ⌝ }
+    ensures { λ r. ⌜ ((font : List ℕ) → Says r (commandOf g font s Command.Home)) ⌝ }
+{
+    let view = state::view_of(g, s);
+    let to = moves::to(view, 0, 0);
+    ends(state::with_view(s, to), Outcome::Carried)
+}
+
+// CR.
+pub fn carriage_return(g: Geometry, s: State) -> Done
+    requires { ⌜ Usable g × (accepted g s ≡ true) ⌝ }
+    ensures { λ r. ⌜ ((font : List ℕ) → Says r (commandOf g font s Command.Return)) ⌝ }
+{
+    let view = state::view_of(g, s);
+    let to = moves::to(view, 0, view.y);
+    ends(state::with_view(s, to), Outcome::Carried)
+}
+
+// ---- settings and windows; `held` says whether a window is held
+
+// A window selected.
+pub fn select(g: Geometry, s: State, held: bool, k: u8) -> Done
+    requires { ⌜ held ≡ isHeld (s .hold) ⌝ }
+    ensures { λ r. ⌜ ((font : List ℕ) → Says r (commandOf g font s (Command.Select k))) ⌝ }
+{
+    if held {
+        return ends(s, Outcome::WindowHeld);
+    }
+    if 4 < k {
+        return ends(s, Outcome::OutOfDomain);
+    }
+    let windows = s.windows;
+    if accept::selectable(windows, k) {
+        return ends(State { selected: k, ..s }, Outcome::Carried);
+    }
+    ends(s, Outcome::NotDefined)
+}
+
+// MD1, MD2, MD3.
+pub fn mode(g: Geometry, s: State, n: u8) -> Done
+    requires { ⌜ s .selected ≤ 4 ⌝ }
+    ensures { λ r. ⌜ ((font : List ℕ) → Says r (commandOf g font s (Command.Mode n))) ⌝ }
+{
+    ends(state::in_mode(s, n), Outcome::Carried)
+}
+
+// A setting that one byte gives.
+pub fn set(g: Geometry, s: State, held: bool, key: Key, n: u8) -> Done
+    requires { ⌜ held ≡ isHeld (s .hold) ⌝ }
+    ensures { λ r. ⌜ ((font : List ℕ) → Says r (commandOf g font s (Command.Set key n))) ⌝ }
+{
+    if state::not_carried_value(key, n) {
+        return ends(s, Outcome::NotCarried);
+    }
+    if state::is_write(key) & held {
+        return ends(s, Outcome::WindowHeld);
+    }
+    if accept::in_domain(key, n) {
+        let v = s.settings;
+        let settings = state::with_setting(v, key, n);
+        return ends(State { settings, ..s }, Outcome::Carried);
+    }
+    ends(s, Outcome::OutOfDomain)
+}
+
+// The enlargement.
+pub fn enlarge(g: Geometry, s: State, x: u8, y: u8) -> Done
+    requires { ⌜ s .selected ≤ 4 ⌝ }
+    ensures { λ r. ⌜ ((font : List ℕ) → Says r (commandOf g font s (Command.Enlarge x y))) ⌝ }
+{
+    if accept::in_enlargement(x, y) {
+        let v = s.settings;
+        let settings = state::enlarge(v, x, y);
+        return ends(State { settings, ..s }, Outcome::Carried);
+    }
+    ends(s, Outcome::OutOfDomain)
+}
+
+// The cursor set.
+pub fn set_cursor(g: Geometry, s: State, x: u16, y: u16) -> Done
+    requires { ⌜ s .selected ≤ 4 ⌝ }
+    ensures { λ r. ⌜ ((font : List ℕ) → Says r (commandOf g font s (Command.CursorSet x y))) ⌝ }
+{
+    if state::inside_window(g, s, x, y) {
+        let c = state::cursor_of(s);
+        return ends(state::at_cursor(s, Cursor { x, y, ..c }), Outcome::Carried);
+    }
+    ends(s, Outcome::OutOfDomain)
+}
+
+// A user window defined.
+pub fn define(
+    g: Geometry,
+    s: State,
+    held: bool,
+    a: u8,
+    left: u16,
+    top: u16,
+    width: u16,
+    height: u16,
+) -> Done
+    requires { ⌜ (held ≡ isHeld (s .hold)) × (1 ≤ a) × (a ≤ 4) ⌝ }
+    ensures { λ r. ⌜ ((font : List ℕ) → Says r (commandOf g font s (Command.Define a left top width height))) ⌝ }
+{
+    if held {
+        return ends(s, Outcome::WindowHeld);
+    }
+    if accept::fits(g, left, top, width, height) {
+        return ends(
+            state::define(s, a, left, top, width, height),
+            Outcome::Carried,
+        );
+    }
+    ends(s, Outcome::OutOfDomain)
+}
+
+// A user window cancelled.
+pub fn cancel(g: Geometry, s: State, held: bool, a: u8) -> Done
+    requires { ⌜ (held ≡ isHeld (s .hold)) × (1 ≤ a) × (a ≤ 4) ⌝ }
+    ensures { λ r. ⌜ ((font : List ℕ) → Says r (commandOf g font s (Command.Cancel a))) ⌝ }
+{
+    if held {
+        return ends(s, Outcome::WindowHeld);
+    }
+    ends(state::cancel(s, a), Outcome::Carried)
+}

@@ -1,0 +1,301 @@
+-- The half-read commands that the paper accepts are those that some bytes lead to. Assumes nothing.
+use mathlib.Core.Path.{_≡_, refl, sym, ap, _∙_, subst}
+use mathlib.Core.Bool.{true}
+use mathlib.Core.List.{List, [], _∷_, _++_}
+use mathlib.Core.Logic.{⊎-elim}
+use Prim.Native.Nat.{ℕ, zero, suc, _+_, _-_, _/_, _%_, _<_, _≤_}
+use native.Mathlib.Nat.{eq-or-lt-of-le}
+use native.Mathlib.Numerals.{add-one}
+use native.Mathlib.Omega.{arith}
+use lib.Dec.{leb}
+use borrow.Author.Tests.{lt-leb, lt-ltb, le-ltb}
+use Rattle.paper.specs.declared.Geometry.{Geometry}
+use Rattle.paper.specs.declared.Key.{Key}
+use Rattle.paper.specs.declared.Key.the-variants.{Charset, Codes, Shown, Brightness, Reverse, Speed, Mixing, Width, Write}
+use Rattle.paper.specs.declared.Word.{Word}
+use Rattle.paper.specs.declared.Word.the-variants.{CursorX, CursorY, WindowLeft, WindowTop, WindowWidth, WindowHeight, ImageWidth, ImageHeight}
+use Rattle.paper.specs.declared.Half.{Half}
+use Rattle.paper.specs.declared.Half.the-variants.{Nothing, Escape, Unit, Group, Actions, Pictures, Characters, Windows, Value, Rest, DefineA, DefineFrom, DefineTo, GlyphWidth, GlyphByte, Low, High, ImageKind, ImageData, EnlargeX, EnlargeY, SelectA, WindowA, WindowB}
+use Rattle.paper.specs.declared.Reading.the-variants.{More, Picture}
+use Rattle.paper.specs.Reading.{between, readFirst, readEscape, readUnit, readGroup, readActions, readPictures, readCharacters, readWindows, readRest, readGlyphByte, readWindowB, word16, readWord, readImage, readOf}
+use Rattle.paper.specs.Bounds.{wordOk, halfOk}
+use Rattle.laws_bytes.specs.Readings.{readingOk}
+use Rattle.laws_bytes.specs.Beginnings.{Begins, no-byte, one-more, one-stored, Beginning, WordFits, Fits}
+use Rattle.laws_bytes.proofs.Tests.{both-of, between-facts, between-true}
+use Rattle.laws_bytes.proofs.Readings.{image-facts, reads-ok, picture-facts}
+
+module _ (g : Geometry) where
+  -- what bytes lead to is accepted
+  pub begins-ok : {bs : List ℕ} {p : Half} → Begins g bs p → halfOk g p ≡ true
+  unfolding halfOk readingOk
+  begins-ok no-byte = refl
+  begins-ok (one-more {p = p} b s l e) = rw e at (reads-ok g p b (begins-ok s))
+  begins-ok (one-stored {p = p} {q = q} b column row s l e) =
+      picture-facts g column row b q (rw e at (reads-ok g p b (begins-ok s))) .2
+
+  -- ---- bytes, one after the other
+
+  -- before the first byte nothing is half read
+  nothing : Beginning g Nothing
+  nothing = record { bytes = []; begins = no-byte }
+
+  -- one byte more
+  more : {p q : Half} (b : ℕ) → b < 256 → readOf g p b ≡ More q → Beginning g p → Beginning g q
+  more b l e s = record { bytes = s .bytes ++ (b ∷ []); begins = one-more b (s .begins) l e }
+
+  -- one byte of an image more
+  stored : {p q : Half} (column row : ℕ) → readOf g p 0 ≡ Picture column row 0 q → Beginning g p → Beginning g q
+  stored column row e s = record { bytes = s .bytes ++ (0 ∷ []); begins = one-stored 0 column row (s .begins) (omega arith) e }
+
+  -- ---- the openers
+
+  -- 1Bh
+  escape : Beginning g Escape
+  unfolding readOf readFirst
+  escape = more 0x1B (omega arith) refl nothing
+
+  -- 1Fh
+  unit : Beginning g Unit
+  unfolding readOf readFirst
+  unit = more 0x1F (omega arith) refl nothing
+
+  -- 1Fh 28h
+  group : Beginning g Group
+  unfolding readOf readUnit
+  group = more 0x28 (omega arith) refl unit
+
+  -- 1Fh 28h 61h
+  actions : Beginning g Actions
+  unfolding readOf readGroup
+  actions = more 0x61 (omega arith) refl group
+
+  -- 1Fh 28h 66h
+  pictures : Beginning g Pictures
+  unfolding readOf readGroup
+  pictures = more 0x66 (omega arith) refl group
+
+  -- 1Fh 28h 67h
+  characters : Beginning g Characters
+  unfolding readOf readGroup
+  characters = more 0x67 (omega arith) refl group
+
+  -- 1Fh 28h 77h
+  windows : Beginning g Windows
+  unfolding readOf readGroup
+  windows = more 0x77 (omega arith) refl group
+
+  -- the parameter of a setting
+  value : (key : Key) → Beginning g (Value key)
+  unfolding readOf readEscape readUnit readCharacters readWindows
+  value Charset = more 0x52 (omega arith) refl escape
+  value Codes = more 0x74 (omega arith) refl escape
+  value Shown = more 0x43 (omega arith) refl unit
+  value Brightness = more 0x58 (omega arith) refl unit
+  value Reverse = more 0x72 (omega arith) refl unit
+  value Speed = more 0x73 (omega arith) refl unit
+  value Mixing = more 0x77 (omega arith) refl unit
+  value Width = more 0x03 (omega arith) refl characters
+  value Write = more 0x10 (omega arith) refl windows
+
+  -- ---- what is counted down
+
+  -- bytes of which fewer and fewer are left
+  fewer : (P : ℕ → Half) → ((n : ℕ) → readOf g (P (suc (suc n))) 0 ≡ More (P (suc n)))
+      → (k n : ℕ) → 1 ≤ n → n ≤ k → Beginning g (P k) → Beginning g (P n)
+  fewer P step zero n l h s = absurd (omega arith)
+  fewer P step (suc zero) n l h s = subst (λ (i : ℕ). Beginning g (P i)) (omega arith) s
+  fewer P step (suc (suc k)) n l h s =
+      ⊎-elim (λ e. subst (λ (i : ℕ). Beginning g (P i)) (sym e) s)
+      (λ m. fewer P step (suc k) n l (omega arith) (more 0 (omega arith) (step k) s)) (eq-or-lt-of-le h)
+
+  -- the rest of a command that is not carried
+  rest : (left : ℕ) → between 1 5 left ≡ true → Beginning g (Rest left)
+  unfolding readOf readActions readRest
+  rest left h =
+      let f = between-facts 1 5 left h in
+      fewer Rest (λ n. rw (lt-leb (suc (suc n)) 1 (omega arith)) (ap (λ (k : ℕ). More (Rest k)) (omega arith)))
+      5 left (f .0) (f .1) (more 0x10 (omega arith) refl actions)
+
+  -- the define's a
+  define-a : Beginning g DefineA
+  unfolding readOf readEscape
+  define-a = more 0x26 (omega arith) refl escape
+
+  -- its c1
+  define-from : Beginning g DefineFrom
+  unfolding readOf
+  define-from = more 1 (omega arith) refl define-a
+
+  -- its c2
+  define-to : (from : ℕ) → leb 0x20 from ≡ true → from < 256 → Beginning g (DefineTo from)
+  unfolding readOf
+  define-to from h l = more from l (rw h) define-from
+
+  -- the width of a glyph
+  glyph-width : (code last : ℕ) → leb 0x20 code ≡ true → leb code last ≡ true → code < 256 → last < 256
+      → Beginning g (GlyphWidth code last)
+  unfolding readOf
+  glyph-width code last h e l m = more last m (rw e) (define-to code h l)
+
+  -- a byte of a glyph, 7 of them at most
+  glyph-byte : (code last left : ℕ) → between 1 7 left ≡ true → Beginning g (GlyphWidth code last)
+      → Beginning g (GlyphByte code last left)
+  unfolding readOf readGlyphByte
+  glyph-byte code last left h s =
+      let f = between-facts 1 7 left h in
+      fewer (GlyphByte code last)
+      (λ n. rw (lt-leb (suc (suc n)) 1 (omega arith)) (ap (λ (k : ℕ). More (GlyphByte code last k)) (omega arith)))
+      7 left (f .0) (f .1) (more 7 (omega arith) refl s)
+
+  -- ---- 16-bit parameters
+
+  -- a parameter n in two bytes, low byte first
+  word : (w : Word) {q : Half} (n : ℕ) → n < 65536 → readWord g w n ≡ More q → Beginning g (Low w) → Beginning g q
+  unfolding readOf
+  word w n l e s =
+      let whole : word16 (n % 256) (n / 256) ≡ n = omega arith in
+      more (n / 256) (omega arith) (ap (readWord g w) whole ∙ e) (more (n % 256) (omega arith) refl s)
+
+  -- the cursor's first
+  cursor-x : Beginning g (Low CursorX)
+  unfolding readOf readUnit
+  cursor-x = more 0x24 (omega arith) refl unit
+
+  -- a window's number
+  window-a : Beginning g WindowA
+  unfolding readOf readWindows
+  window-a = more 0x02 (omega arith) refl windows
+
+  -- what follows it
+  module _ (a : ℕ) (h : between 1 4 a ≡ true) (l : a < 256) where
+    -- define or cancel
+    window-b : Beginning g (WindowB a)
+    unfolding readOf
+    window-b = more a l (rw h) window-a
+
+    -- define, the first of four parameters
+    window-left : Beginning g (Low (WindowLeft a))
+    unfolding readOf readWindowB
+    window-left = more 1 (omega arith) refl window-b
+
+    -- the second
+    window-top : (left : ℕ) → left < 65536 → Beginning g (Low (WindowTop a left))
+    unfolding readWord
+    window-top left m = word (WindowLeft a) left m refl window-left
+
+    -- the third
+    window-width : (left top : ℕ) → left < 65536 → top < 65536 → Beginning g (Low (WindowWidth a left top))
+    unfolding readWord
+    window-width left top m n = word (WindowTop a left) top n refl (window-top left m)
+
+    -- the fourth
+    window-height : (left top width : ℕ) → left < 65536 → top < 65536 → width < 65536
+        → Beginning g (Low (WindowHeight a left top width))
+    unfolding readWord
+    window-height left top width m n o = word (WindowWidth a left top) width o refl (window-width left top m n)
+
+  -- an image's width
+  image-width : Beginning g (Low ImageWidth)
+  unfolding readOf readPictures
+  image-width = more 0x11 (omega arith) refl pictures
+
+  -- its height
+  image-height : (width : ℕ) → between 1 (g .columns) width ≡ true → width < 65536 → Beginning g (Low (ImageHeight width))
+  unfolding readWord
+  image-height width h l = word ImageWidth width l (rw h) image-width
+
+  -- every awaited parameter
+  low : (w : Word) → wordOk g w ≡ true → WordFits w → Beginning g (Low w)
+  unfolding wordOk readWord
+  low CursorX h f = cursor-x
+  low (CursorY x) h f = word CursorX x f refl cursor-x
+  low (WindowLeft a) h f = window-left a h f
+  low (WindowTop a left) h f = window-top a h (f .0) left (f .1)
+  low (WindowWidth a left top) h f = window-width a h (f .0) left top (f .1) (f .2)
+  low (WindowHeight a left top width) h f = window-height a h (f .0) left top width (f .1) (f .2) (f .3)
+  low ImageWidth h f = image-width
+  low (ImageHeight width) h f = image-height width h f
+
+  -- ---- images
+
+  -- the image's g
+  image-kind : (width height : ℕ) → halfOk g (ImageKind width height) ≡ true → width < 65536 → height < 65536
+      → Beginning g (ImageKind width height)
+  unfolding halfOk readWord
+  image-kind width height h l m =
+      let f = both-of (between 1 (g .columns) width) (between 1 (g .rows) height) h in
+      word (ImageHeight width) height m (rw (f .1)) (image-height width (f .0) l)
+
+  module _ (width height : ℕ) where
+    -- down a column of an image
+    down : (column row : ℕ) → row < height → Beginning g (ImageData width height column 0)
+        → Beginning g (ImageData width height column row)
+    unfolding readOf readImage
+    down column zero l s = s
+    down column (suc row) l s =
+        stored column row
+        (rw (lt-ltb (row + 1) height (omega arith))
+        (ap (λ (n : ℕ). Picture column row 0 (ImageData width height column n)) (add-one row)))
+        (down column row (omega arith) s)
+
+    -- along an image's top row
+    along : (column : ℕ) → column < width → 1 ≤ height → Beginning g (ImageData width height 0 0)
+        → Beginning g (ImageData width height column 0)
+    unfolding readOf readImage
+    along zero l m s = s
+    along (suc column) l m s =
+        stored column (height - 1)
+        (rw (le-ltb (height - 1 + 1) height (omega arith), lt-ltb (column + 1) width (omega arith))
+        (ap (λ (n : ℕ). Picture column (height - 1) 0 (ImageData width height n 0)) (add-one column)))
+        (down column (height - 1) (omega arith) (along column (omega arith) m s))
+
+    -- any place of an image
+    image : (column row : ℕ) → halfOk g (ImageData width height column row) ≡ true → width < 65536 → height < 65536
+        → Beginning g (ImageData width height column row)
+    unfolding readOf halfOk
+    image column row h l m =
+        let f = image-facts g width height column row h in
+        let w = between-true 1 (g .columns) width (f .0) (f .1) in
+        let t = between-true 1 (g .rows) height (f .2) (f .3) in
+        down column row (f .5)
+        (along column (f .4) (f .2) (more 1 (omega arith) refl (image-kind width height (rw (w, t)) l m)))
+
+  -- ---- all of them
+
+  -- the enlargement's x
+  enlarge-x : Beginning g EnlargeX
+  unfolding readOf readCharacters
+  enlarge-x = more 0x40 (omega arith) refl characters
+
+  -- some bytes lead to every accepted half-read command whose numbers fit
+  pub ok-begins : (p : Half) → halfOk g p ≡ true → Fits p → Beginning g p
+  unfolding halfOk readOf readWindows
+  ok-begins Nothing h f = nothing
+  ok-begins Escape h f = escape
+  ok-begins Unit h f = unit
+  ok-begins Group h f = group
+  ok-begins Actions h f = actions
+  ok-begins Pictures h f = pictures
+  ok-begins Characters h f = characters
+  ok-begins Windows h f = windows
+  ok-begins (Value key) h f = value key
+  ok-begins (Rest left) h f = rest left h
+  ok-begins DefineA h f = define-a
+  ok-begins DefineFrom h f = define-from
+  ok-begins (DefineTo from) h f = define-to from h f
+  ok-begins (GlyphWidth code last) h f =
+      let c = both-of (leb 0x20 code) (leb code last) h in
+      glyph-width code last (c .0) (c .1) (f .0) (f .1)
+  ok-begins (GlyphByte code last left) h f =
+      let c = both-of (leb 0x20 code) _ h in
+      let l = both-of (leb code last) _ (c .1) in
+      glyph-byte code last left (l .1) (glyph-width code last (c .0) (l .0) (f .0) (f .1))
+  ok-begins (Low w) h f = low w h f
+  ok-begins (High w low-byte) h f = more low-byte (f .1) refl (low w h (f .0))
+  ok-begins (ImageKind width height) h f = image-kind width height h (f .0) (f .1)
+  ok-begins (ImageData width height column row) h f = image width height column row h (f .0) (f .1)
+  ok-begins EnlargeX h f = enlarge-x
+  ok-begins (EnlargeY x) h f = more x f refl enlarge-x
+  ok-begins SelectA h f = more 0x01 (omega arith) refl windows
+  ok-begins WindowA h f = window-a
+  ok-begins (WindowB a) h f = window-b a h f

@@ -1,0 +1,277 @@
+-- Whatever a byte gives to an accepted half-read command passes the test of specs/Readings.antt. Assumes nothing.
+use mathlib.Core.Path.{_≡_, refl}
+use mathlib.Core.Bool.{Bool, true, false, cond, _||_}
+use Prim.Native.Nat.{ℕ, _+_, _-_, _<_, _≤_}
+use native.Mathlib.Omega.{arith}
+use lib.Dec.{leb, ltb, eqb}
+use borrow.Author.Tests.{leb-true, leb-false, le-leb, ltb-true, lt-ltb, eqb-true}
+use Rattle.paper.specs.declared.Geometry.{Geometry}
+use Rattle.paper.specs.declared.Word.{Word}
+use Rattle.paper.specs.declared.Word.the-variants.{CursorX, CursorY, WindowLeft, WindowTop, WindowWidth, WindowHeight, ImageWidth, ImageHeight}
+use Rattle.paper.specs.declared.Half.{Half}
+use Rattle.paper.specs.declared.Half.the-variants.{Nothing, Escape, Unit, Group, Actions, Pictures, Characters, Windows, Value, Rest, DefineA, DefineFrom, DefineTo, GlyphWidth, GlyphByte, Low, High, ImageKind, ImageData, EnlargeX, EnlargeY, SelectA, WindowA, WindowB}
+use Rattle.paper.specs.declared.Reading.{Reading}
+use Rattle.paper.specs.declared.Reading.the-variants.{Picture}
+use Rattle.paper.specs.Reading.{between, moreIf, readMove, readFirst, readEscape, readUnit, readGroup, readActions, readPictures, readCharacters, readWindows, readRest, readGlyphByte, readWindowB, word16, readWord, readImage, readOf}
+use Rattle.paper.specs.Bounds.{wordOk, halfOk}
+use Rattle.laws_bytes.specs.Readings.{commandOk, readingOk}
+use Rattle.laws_bytes.proofs.Tests.{both-of, between-facts, between-true}
+
+-- 5 and 7 are between 1 and 7
+five-or-seven : (x : ℕ) (t : Bool) → eqb x 5 ≡ t → (t || eqb x 7) ≡ true → between 1 7 x ≡ true
+five-or-seven x true e h = rw (eqb-true x 5 e)
+five-or-seven x false e h = rw (eqb-true x 7 h)
+
+module _ (g : Geometry) where
+  -- an image of a size that the memory has, and a place of it
+  abbrev pub InImage : ℕ → ℕ → ℕ → ℕ → Type 0
+  InImage width height column row =
+      (1 ≤ width) × (width ≤ g .columns) × (1 ≤ height) × (height ≤ g .rows) × (column < width) × (row < height)
+
+  -- that is what an accepted image says of itself and of its next byte
+  pub image-facts : (width height column row : ℕ) → halfOk g (ImageData width height column row) ≡ true
+      → InImage width height column row
+  unfolding halfOk
+  image-facts width height column row h =
+      let f = both-of (between 1 (g .columns) width) _ h in
+      let e = both-of (between 1 (g .rows) height) _ (f .1) in
+      let d = both-of (ltb column width) _ (e .1) in
+      let w = between-facts 1 (g .columns) width (f .0) in
+      let t = between-facts 1 (g .rows) height (e .0) in
+      (w .0, w .1, t .0, t .1, ltb-true column width (d .0), ltb-true row height (d .1))
+
+  -- and back
+  pub image-true : (width height column row : ℕ) → InImage width height column row
+      → halfOk g (ImageData width height column row) ≡ true
+  unfolding halfOk
+  image-true width height column row f =
+      rw (
+        between-true 1 (g .columns) width (f .0) (f .1),
+        between-true 1 (g .rows) height (f .2) (f .3),
+        lt-ltb column width (f .4),
+        lt-ltb row height (f .5),
+      )
+
+  -- ---- every reading
+
+  -- a reading that passes
+  record Passes (r : Reading) : Type 0 where
+    ok : readingOk g r ≡ true
+
+  -- from its test
+  passes : {r : Reading} → readingOk g r ≡ true → Passes r
+  passes h = record { ok = h }
+
+  -- by the test that picks a reading
+  by : (t : Bool) {x y : Reading} → (t ≡ true → Passes x) → (t ≡ false → Passes y) → Passes (cond t x y)
+  by true f h = f refl
+  by false f h = h refl
+
+  -- whatever the test
+  either : (t : Bool) {x y : Reading} → Passes x → Passes y → Passes (cond t x y)
+  either t f h = by t (λ _. f) (λ _. h)
+
+  -- BS to CR
+  move-ok : (b : ℕ) → Passes (readMove b)
+  unfolding readMove readingOk commandOk
+  move-ok b =
+      either (eqb b 0x08) (passes refl)
+      (either (eqb b 0x09) (passes refl)
+      (either (eqb b 0x0A) (passes refl)
+      (either (eqb b 0x0B) (passes refl)
+      (either (eqb b 0x0C) (passes refl) (passes refl)))))
+
+  -- the first byte
+  first-ok : (b : ℕ) → Passes (readFirst b)
+  unfolding readFirst readingOk commandOk halfOk
+  first-ok b =
+      by (leb 0x20 b) passes
+      (λ _. either (between 0x08 0x0D b) (move-ok b)
+      (either (between 0x10 0x14 b) (passes refl)
+      (either (eqb b 0x1B) (passes refl)
+      (either (eqb b 0x1F) (passes refl) (passes refl)))))
+
+  -- after 1Bh
+  escape-ok : (b : ℕ) → Passes (readEscape b)
+  unfolding readEscape readingOk commandOk halfOk
+  escape-ok b =
+      either (eqb b 0x40) (passes refl)
+      (either (eqb b 0x52) (passes refl)
+      (either (eqb b 0x74) (passes refl)
+      (either (eqb b 0x25) (passes refl)
+      (either (eqb b 0x3F) (passes refl)
+      (either (eqb b 0x26) (passes refl) (passes refl))))))
+
+  -- after 1Fh
+  unit-ok : (b : ℕ) → Passes (readUnit b)
+  unfolding readUnit readingOk commandOk halfOk wordOk
+  unit-ok b =
+      by (between 0x01 0x03 b) passes
+      (λ _. either (eqb b 0x24) (passes refl)
+      (either (eqb b 0x28) (passes refl)
+      (either (eqb b 0x43) (passes refl)
+      (either (eqb b 0x58) (passes refl)
+      (either (eqb b 0x72) (passes refl)
+      (either (eqb b 0x73) (passes refl)
+      (either (eqb b 0x77) (passes refl) (passes refl))))))))
+
+  -- after 1Fh 28h
+  group-ok : (b : ℕ) → Passes (readGroup b)
+  unfolding readGroup readingOk halfOk
+  group-ok b =
+      either (eqb b 0x61) (passes refl)
+      (either (eqb b 0x66) (passes refl)
+      (either (eqb b 0x67) (passes refl)
+      (either (eqb b 0x77) (passes refl) (passes refl))))
+
+  -- after 1Fh 28h 61h
+  actions-ok : (b : ℕ) → Passes (readActions b)
+  unfolding readActions readingOk halfOk
+  actions-ok b =
+      either (eqb b 0x01) (passes refl)
+      (either (eqb b 0x10) (passes refl)
+      (either (eqb b 0x11) (passes refl)
+      (either (eqb b 0x40) (passes refl) (passes refl))))
+
+  -- after 1Fh 28h 66h
+  pictures-ok : (b : ℕ) → Passes (readPictures b)
+  unfolding readPictures readingOk halfOk wordOk
+  pictures-ok b = either (eqb b 0x11) (passes refl) (passes refl)
+
+  -- after 1Fh 28h 67h
+  characters-ok : (b : ℕ) → Passes (readCharacters b)
+  unfolding readCharacters readingOk halfOk
+  characters-ok b = either (eqb b 0x03) (passes refl) (either (eqb b 0x40) (passes refl) (passes refl))
+
+  -- after 1Fh 28h 77h
+  windows-ok : (b : ℕ) → Passes (readWindows b)
+  unfolding readWindows readingOk halfOk
+  windows-ok b =
+      either (eqb b 0x01) (passes refl)
+      (either (eqb b 0x02) (passes refl)
+      (either (eqb b 0x10) (passes refl) (passes refl)))
+
+  -- read on, or cancelled
+  if-ok : (t : Bool) (p : Half) → (t ≡ true → halfOk g p ≡ true) → Passes (moreIf t p)
+  unfolding readingOk
+  if-ok t p h = by t (λ e. passes (h e)) (λ _. passes refl)
+
+  -- the rest of a command that is not carried
+  rest-ok : (left : ℕ) → halfOk g (Rest left) ≡ true → Passes (readRest left)
+  unfolding readRest readingOk commandOk halfOk
+  rest-ok left h =
+      let f = between-facts 1 5 left h in
+      by (leb left 1) (λ _. passes refl)
+      (λ e. let m = leb-false left 1 e in passes (between-true 1 5 (left - 1) (omega arith) (omega arith)))
+
+  -- the width of a glyph that is not carried
+  width-ok : (code last x : ℕ) → halfOk g (GlyphWidth code last) ≡ true → (eqb x 5 || eqb x 7) ≡ true
+      → halfOk g (GlyphByte code last x) ≡ true
+  unfolding halfOk
+  width-ok code last x h e =
+      let f = both-of (leb 0x20 code) (leb code last) h in
+      rw (f .0, f .1, five-or-seven x (eqb x 5) refl e)
+
+  -- a byte of a glyph that is not carried
+  glyph-ok : (code last left : ℕ) → halfOk g (GlyphByte code last left) ≡ true → Passes (readGlyphByte code last left)
+  unfolding readGlyphByte readingOk commandOk halfOk
+  glyph-ok code last left h =
+      let c = both-of (leb 0x20 code) _ h in
+      let l = both-of (leb code last) _ (c .1) in
+      let f = between-facts 1 7 left (l .1) in
+      by (leb left 1)
+      (λ _. by (leb last code) (λ _. passes refl)
+      (λ e.
+      let m = leb-false last code e in
+      let o = leb-true 0x20 code (c .0) in
+      passes (rw (le-leb 0x20 (code + 1) (omega arith), le-leb (code + 1) last (omega arith)))))
+      (λ e.
+      let m = leb-false left 1 e in
+      passes (rw (c .0, l .0, between-true 1 7 (left - 1) (omega arith) (omega arith))))
+
+  -- a window's number is followed by which of the two
+  window-ok : (a b : ℕ) → between 1 4 a ≡ true → Passes (readWindowB a b)
+  unfolding readWindowB readingOk commandOk halfOk wordOk
+  window-ok a b h = by (eqb b 0) (λ _. passes h) (λ _. if-ok (eqb b 1) (Low (WindowLeft a)) (λ _. h))
+
+  -- a 16-bit parameter
+  word-ok : (w : Word) (n : ℕ) → wordOk g w ≡ true → Passes (readWord g w n)
+  unfolding readWord readingOk commandOk halfOk wordOk
+  word-ok CursorX n h = passes refl
+  word-ok (CursorY x) n h = passes refl
+  word-ok (WindowLeft a) n h = passes h
+  word-ok (WindowTop a left) n h = passes h
+  word-ok (WindowWidth a left top) n h = passes h
+  word-ok (WindowHeight a left top width) n h = passes h
+  word-ok ImageWidth n h = if-ok (between 1 (g .columns) n) (Low (ImageHeight n)) (λ e. e)
+  word-ok (ImageHeight width) n h = if-ok (between 1 (g .rows) n) (ImageKind width n) (λ e. rw (h, e))
+
+  -- an image's first byte
+  kind-ok : (width height : ℕ) → halfOk g (ImageKind width height) ≡ true → halfOk g (ImageData width height 0 0) ≡ true
+  unfolding halfOk
+  kind-ok width height h =
+      let f = both-of (between 1 (g .columns) width) (between 1 (g .rows) height) h in
+      let w = between-facts 1 (g .columns) width (f .0) in
+      let t = between-facts 1 (g .rows) height (f .1) in
+      image-true width height 0 0 (omega arith)
+
+  -- a byte of an image, its place, and the next one's
+  image-ok : (width height column row b : ℕ) → halfOk g (ImageData width height column row) ≡ true
+      → Passes (readImage width height column row b)
+  unfolding readImage readingOk
+  image-ok width height column row b h =
+      let f = image-facts width height column row h in
+      let x = lt-ltb column (g .columns) (omega arith) in
+      let y = lt-ltb row (g .rows) (omega arith) in
+      by (ltb (row + 1) height)
+      (λ e.
+      let m = ltb-true (row + 1) height e in
+      passes (rw (x, y, image-true width height column (row + 1) (omega arith))))
+      (λ _. by (ltb (column + 1) width)
+      (λ e.
+      let m = ltb-true (column + 1) width e in
+      passes (rw (x, y, image-true width height (column + 1) 0 (omega arith))))
+      (λ _. passes (rw (x, y))))
+
+  -- every half-read command
+  every-ok : (p : Half) (b : ℕ) → halfOk g p ≡ true → Passes (readOf g p b)
+  unfolding readOf readingOk commandOk halfOk
+  every-ok Nothing b h = first-ok b
+  every-ok Escape b h = escape-ok b
+  every-ok Unit b h = unit-ok b
+  every-ok Group b h = group-ok b
+  every-ok Actions b h = actions-ok b
+  every-ok Pictures b h = pictures-ok b
+  every-ok Characters b h = characters-ok b
+  every-ok Windows b h = windows-ok b
+  every-ok (Value key) b h = passes refl
+  every-ok (Rest left) b h = rest-ok left h
+  every-ok DefineA b h = if-ok (eqb b 1) DefineFrom (λ _. refl)
+  every-ok DefineFrom b h = if-ok (leb 0x20 b) (DefineTo b) (λ e. e)
+  every-ok (DefineTo from) b h = if-ok (leb from b) (GlyphWidth from b) (λ e. rw (h, e))
+  every-ok (GlyphWidth code last) b h = if-ok (eqb b 5 || eqb b 7) (GlyphByte code last b) (λ e. width-ok code last b h e)
+  every-ok (GlyphByte code last left) b h = glyph-ok code last left h
+  every-ok (Low w) b h = passes h
+  every-ok (High w low) b h = word-ok w (word16 low b) h
+  every-ok (ImageKind width height) b h = if-ok (eqb b 1) (ImageData width height 0 0) (λ _. kind-ok width height h)
+  every-ok (ImageData width height column row) b h = image-ok width height column row b h
+  every-ok EnlargeX b h = passes refl
+  every-ok (EnlargeY x) b h = passes refl
+  every-ok SelectA b h = passes refl
+  every-ok WindowA b h = if-ok (between 1 4 b) (WindowB b) (λ e. e)
+  every-ok (WindowB a) b h = window-ok a b h
+
+  -- ---- what carrying out may count on
+
+  -- what any byte gives to an accepted half-read command passes
+  pub reads-ok : (p : Half) (b : ℕ) → halfOk g p ≡ true → readingOk g (readOf g p b) ≡ true
+  reads-ok p b h = every-ok p b h .ok
+
+  -- an image byte's place, and what is half read after it
+  pub picture-facts : (column row b : ℕ) (next : Half) → readingOk g (Picture column row b next) ≡ true
+      → (column < g .columns) × (row < g .rows) × (halfOk g next ≡ true)
+  unfolding readingOk
+  picture-facts column row b next h =
+      let f = both-of (ltb column (g .columns)) _ h in
+      let e = both-of (ltb row (g .rows)) _ (f .1) in
+      (ltb-true column (g .columns) (f .0), ltb-true row (g .rows) (e .0), e .1)

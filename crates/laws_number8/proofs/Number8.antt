@@ -1,0 +1,354 @@
+-- Number 8 is given exactly if a clause of its row holds: `number-8`. Assumes nothing.
+use mathlib.Core.Path.{_≡_, refl, sym, ap, _∙_}
+use mathlib.Core.Bool.{Bool, true, false, cond, _&&_, _||_, true≢false}
+use mathlib.Core.List.{List, [], _∷_}
+use mathlib.Core.Logic.{_↔_, _≢_, _⊎_, inl, inr}
+use Prim.Native.Nat.{ℕ, zero, suc, _+_, _<_, _≤_}
+use native.Mathlib.Omega.{arith}
+use lib.Dec.{leb, ltb, eqb}
+use lib.ListN.{getD}
+use borrow.Author.Tests.{leb-true, leb-false, ltb-true, ltb-false, eqb-true, eqb-false, ne-eqb}
+use Rattle.paper.specs.declared.Settings.{Settings}
+use Rattle.paper.specs.declared.Cursor.{Cursor}
+use Rattle.paper.specs.declared.Window.{Window}
+use Rattle.paper.specs.declared.Span.{Span}
+use Rattle.paper.specs.declared.Hold.{Hold}
+use Rattle.paper.specs.declared.Hold.the-variants.{Free, Held}
+use Rattle.paper.specs.declared.State.{State}
+use Rattle.paper.specs.Panel.{panel}
+use Rattle.paper.specs.Strokes.{noSpan, spanOf}
+use Rattle.paper.specs.Reading.{between}
+use Rattle.paper.specs.Settings.{inDomain, inEnlargement, noWindow, isDefined, selectable, fits}
+use Rattle.paper.specs.Bounds.{settingsOk, cursorOk, isBlank, windowOk, windowsOk, holdOk, spanOk, spansOk, halfOk, accepted}
+use Rattle.laws_bytes.specs.Beginnings.{Fits}
+use Rattle.laws_bytes.proofs.Tests.{both-of, between-facts}
+use Rattle.laws_bytes.proofs.Beginnings.{begins-ok, ok-begins}
+use Rattle.laws_state.specs.Parts.{Parts}
+use Rattle.laws_state.proofs.Tests.{neither}
+use Rattle.laws_state.proofs.Parts.{parts, cursor-facts, fits-facts, window-at, selected-facts, HeldWell, hold-facts}
+use Rattle.laws_number8.specs.Row.{window, Defined, Outside, NoMode, OutOfDomain, charset, codes, shown, brightness, reverse, speed, mixing, width, across, down, write, span, lastOf, Breaks, window-leaves, window-of-no-size, cursor-outside, base-cursor-outside, setting-out, mode-out, base-mode-out, saved-setting-out, undefined-selected, undefined-held, undefined-saved, held-not-selected, span-wrong, half-impossible}
+
+-- ---- tests that fail
+
+-- one part of a test fails
+fails : {P : Type 0} (a : Bool) {b : Bool} → (a ≡ false → P) → (b ≡ false → P) → (a && b) ≡ false → P
+fails true f h e = h e
+fails false f h e = f refl
+
+-- a test that can't pass fails
+never : (t : Bool) → ¬ (t ≡ true) → t ≡ false
+never true n = absurd (n refl)
+never false n = refl
+
+-- a number that does not lie between two
+not-between : (lo hi n : ℕ) → between lo hi n ≡ false → (n < lo) ⊎ (hi < n)
+not-between lo hi n = fails (leb lo n) (λ e. inl (leb-false lo n e)) (λ e. inr (leb-false n hi e))
+
+-- ---- settings
+
+-- a setting is outside its domain if their test fails
+settings-out : (v : Settings) → settingsOk v ≡ false → OutOfDomain v
+unfolding settingsOk inDomain inEnlargement
+settings-out v =
+    fails (leb (v .charset) 13) (λ e. charset (leb-false (v .charset) 13 e))
+    (fails (leb (v .codes) 5 || between 16 19 (v .codes))
+    (λ e.
+    let n = neither (leb (v .codes) 5) (between 16 19 (v .codes)) e in
+    codes (leb-false (v .codes) 5 (n .0)) (not-between 16 19 (v .codes) (n .1)))
+    (fails (leb (v .shown) 1) (λ e. shown (leb-false (v .shown) 1 e))
+    (fails (between 1 8 (v .brightness)) (λ e. brightness (not-between 1 8 (v .brightness) e))
+    (fails (leb (v .speed) 31) (λ e. speed (leb-false (v .speed) 31 e))
+    (fails (leb (v .width) 1) (λ e. width (leb-false (v .width) 1 e))
+    (fails (leb (v .write) 1) (λ e. write (leb-false (v .write) 1 e))
+    (fails (leb (v .style .reverse) 1) (λ e. reverse (leb-false (v .style .reverse) 1 e))
+    (fails (leb (v .style .mixing) 3) (λ e. mixing (leb-false (v .style .mixing) 3 e))
+    (fails (between 1 4 (v .style .across)) (λ e. across (not-between 1 4 (v .style .across) e))
+    (λ e. down (not-between 1 2 (v .style .down) e)))))))))))
+
+-- a number that a test lets pass
+below : (n hi : ℕ) → leb n hi ≡ true → ¬ (hi < n)
+below n hi e o = let l = leb-true n hi e in omega arith
+
+inside : (lo hi n : ℕ) → between lo hi n ≡ true → ¬ ((n < lo) ⊎ (hi < n))
+inside lo hi n e (inl o) = let f = between-facts lo hi n e in omega arith
+inside lo hi n e (inr o) = let f = between-facts lo hi n e in omega arith
+
+-- the test of every setting
+abbrev InDomains : Settings → Type 0
+InDomains v =
+    (leb (v .charset) 13 ≡ true)
+    × ((leb (v .codes) 5 || between 16 19 (v .codes)) ≡ true)
+    × (leb (v .shown) 1 ≡ true)
+    × (between 1 8 (v .brightness) ≡ true)
+    × (leb (v .speed) 31 ≡ true)
+    × (leb (v .width) 1 ≡ true)
+    × (leb (v .write) 1 ≡ true)
+    × (leb (v .style .reverse) 1 ≡ true)
+    × (leb (v .style .mixing) 3 ≡ true)
+    × (between 1 4 (v .style .across) ≡ true)
+    × (between 1 2 (v .style .down) ≡ true)
+
+in-domains : (v : Settings) → settingsOk v ≡ true → InDomains v
+unfolding settingsOk inDomain inEnlargement
+in-domains v h =
+    let a = both-of (leb (v .charset) 13) _ h in
+    let b = both-of (leb (v .codes) 5 || between 16 19 (v .codes)) _ (a .1) in
+    let c = both-of (leb (v .shown) 1) _ (b .1) in
+    let d = both-of (between 1 8 (v .brightness)) _ (c .1) in
+    let e = both-of (leb (v .speed) 31) _ (d .1) in
+    let f = both-of (leb (v .width) 1) _ (e .1) in
+    let i = both-of (leb (v .write) 1) _ (f .1) in
+    let j = both-of (leb (v .style .reverse) 1) _ (i .1) in
+    let k = both-of (leb (v .style .mixing) 3) _ (j .1) in
+    let l = both-of (between 1 4 (v .style .across)) (between 1 2 (v .style .down)) (k .1) in
+    (a .0, b .0, c .0, d .0, e .0, f .0, i .0, j .0, k .0, l .0, l .1)
+
+-- the two parts of 74h's domain
+in-codes : (t : Bool) (n : ℕ) → leb n 5 ≡ t → (t || between 16 19 n) ≡ true → 5 < n → ¬ ((n < 16) ⊎ (19 < n))
+in-codes true n q e o p = below n 5 q o
+in-codes false n q e o p = inside 16 19 n e p
+
+-- none is outside if they all pass
+settings-in : (v : Settings) → InDomains v → ¬ OutOfDomain v
+settings-in v t (charset o) = below (v .charset) 13 (t .0) o
+settings-in v t (codes o p) = in-codes (leb (v .codes) 5) (v .codes) refl (t .1) o p
+settings-in v t (shown o) = below (v .shown) 1 (t .2) o
+settings-in v t (brightness o) = inside 1 8 (v .brightness) (t .3) o
+settings-in v t (reverse o) = below (v .style .reverse) 1 (t .7) o
+settings-in v t (speed o) = below (v .speed) 31 (t .4) o
+settings-in v t (mixing o) = below (v .style .mixing) 3 (t .8) o
+settings-in v t (width o) = below (v .width) 1 (t .5) o
+settings-in v t (across o) = inside 1 4 (v .style .across) (t .9) o
+settings-in v t (down o) = inside 1 2 (v .style .down) (t .10) o
+settings-in v t (write o) = below (v .write) 1 (t .6) o
+
+-- ---- windows and cursors
+
+-- the record of no window, and of no span, field by field
+zeros : {l t w h x y m : ℕ} → l ≡ 0 → t ≡ 0 → w ≡ 0 → h ≡ 0 → x ≡ 0 → y ≡ 0 → m ≡ 0
+    → record { left = l; top = t; width = w; height = h; cursor = record { x = x; y = y; mode = m } } ≡ noWindow
+zeros a b c d e f i = rw (a, b, c, d, e, f, i)
+
+empty : {f e : ℕ} → f ≡ 0 → e ≡ 0 → spanOf f e ≡ noSpan
+empty a b = rw (a, b)
+
+-- a record is that of no window exactly if the test says so
+blank-none : (w : Window) → isBlank w ≡ true → w ≡ noWindow
+unfolding isBlank
+blank-none w h =
+    let a = both-of (eqb (w .left) 0) _ h in
+    let b = both-of (eqb (w .top) 0) _ (a .1) in
+    let c = both-of (eqb (w .width) 0) _ (b .1) in
+    let d = both-of (eqb (w .height) 0) _ (c .1) in
+    let e = both-of (eqb (w .cursor .x) 0) _ (d .1) in
+    let f = both-of (eqb (w .cursor .y) 0) (eqb (w .cursor .mode) 0) (e .1) in
+    zeros (eqb-true (w .left) 0 (a .0)) (eqb-true (w .top) 0 (b .0)) (eqb-true (w .width) 0 (c .0))
+    (eqb-true (w .height) 0 (d .0)) (eqb-true (w .cursor .x) 0 (e .0)) (eqb-true (w .cursor .y) 0 (f .0))
+    (eqb-true (w .cursor .mode) 0 (f .1))
+
+-- and a span nothing
+nothing-none : (p : Span) → (eqb (p .first) 0 && eqb (p .end) 0) ≡ true → p ≡ noSpan
+nothing-none p h =
+    let f = both-of (eqb (p .first) 0) (eqb (p .end) 0) h in
+    empty (eqb-true (p .first) 0 (f .0)) (eqb-true (p .end) 0 (f .1))
+
+not-blank : (w : Window) → isBlank w ≡ false → w ≢ noWindow
+unfolding isBlank
+not-blank w h e = true≢false (sym (ap isBlank e) ∙ h)
+
+-- a cursor is outside its window, or has no mode, if its test fails
+cursor-out : {P : Type 0} (columns rows : ℕ) (k : Cursor) → (Outside columns rows k → P) → (NoMode k → P)
+    → cursorOk columns rows k ≡ false → P
+unfolding cursorOk
+cursor-out columns rows k o n =
+    fails (ltb (k .x) columns) (λ e. o (inl (ltb-false (k .x) columns e)))
+    (fails (ltb (k .y) rows) (λ e. o (inr (ltb-false (k .y) rows e))) (λ e. n (not-between 1 3 (k .mode) e)))
+
+-- and neither if it passes
+cursor-inside : (columns rows : ℕ) (k : Cursor) → cursorOk columns rows k ≡ true → ¬ Outside columns rows k
+cursor-inside columns rows k h (inl o) = let f = cursor-facts columns rows k h in omega (arith, f .0, o)
+cursor-inside columns rows k h (inr o) = let f = cursor-facts columns rows k h in omega (arith, f .1, o)
+
+cursor-mode : (columns rows : ℕ) (k : Cursor) → cursorOk columns rows k ≡ true → ¬ NoMode k
+cursor-mode columns rows k h (inl o) = let f = cursor-facts columns rows k h in omega (arith, f .2, o)
+cursor-mode columns rows k h (inr o) = let f = cursor-facts columns rows k h in omega (arith, f .3, o)
+
+module _ (s : State) where
+  -- a clause holds of a user window whose test fails
+  window-out : (k : ℕ) → 1 ≤ k → k ≤ 4 → windowOk panel (window s k) ≡ false → Breaks s
+  unfolding windowOk fits panel
+  window-out k l h e =
+      let w = window s k in
+      let n = neither (isBlank w) _ e in
+      let d : Defined s k = record { first = l; last = h; some = not-blank w (n .0) } in
+      fails (fits panel (w .left) (w .top) (w .width) (w .height))
+      (fails (leb 1 (w .width)) (λ q. let m = leb-false 1 (w .width) q in window-of-no-size k d (inl (omega arith)))
+      (fails (leb 1 (w .height)) (λ q. let m = leb-false 1 (w .height) q in window-of-no-size k d (inr (omega arith)))
+      (fails (leb (w .left + w .width) 512) (λ q. window-leaves k d (inl (leb-false (w .left + w .width) 512 q)))
+      (λ q. window-leaves k d (inr (leb-false (w .top + w .height) 2 q))))))
+      (cursor-out (w .width) (w .height) (w .cursor) (cursor-outside k d) (mode-out k d)) (n .1)
+
+  -- of one of the four
+  windows-out : windowsOk panel (s .windows) ≡ false → Breaks s
+  unfolding windowsOk
+  windows-out =
+      fails (windowOk panel (window s 1)) (window-out 1 (omega arith) (omega arith))
+      (fails (windowOk panel (window s 2)) (window-out 2 (omega arith) (omega arith))
+      (fails (windowOk panel (window s 3)) (window-out 3 (omega arith) (omega arith))
+      (window-out 4 (omega arith) (omega arith))))
+
+  -- a window that can't be selected is not defined, or its record is none of a window
+  not-selectable : (k : ℕ) → selectable (s .windows) k ≡ false → (k ≢ 0 → ¬ Defined s k → Breaks s) → Breaks s
+  unfolding selectable
+  not-selectable k e undefined = go (eqb k 0) (leb k 4) (isDefined (window s k)) (isBlank (window s k)) refl refl refl refl e where
+    go : (z i d b : Bool) → eqb k 0 ≡ z → leb k 4 ≡ i → isDefined (window s k) ≡ d → isBlank (window s k) ≡ b
+        → cond z true (i && d) ≡ false → Breaks s
+    go true i d b z-is i-is d-is b-is q = absurd (true≢false q)
+    go false false d b z-is i-is d-is b-is q =
+        undefined (eqb-false k 0 z-is) (λ f. let m = leb-false k 4 i-is in let l = f .last in omega arith)
+    go false true true b z-is i-is d-is b-is q = absurd (true≢false q)
+    go false true false true z-is i-is d-is b-is q =
+        undefined (eqb-false k 0 z-is) (λ f. f .some (blank-none (window s k) b-is))
+    go false true false false z-is i-is d-is b-is q =
+        let n = eqb-false k 0 z-is in
+        let l = leb-true k 4 i-is in
+        let w = ltb-false 0 (window s k .width) d-is in
+        window-of-no-size k (record { first = omega arith; last = l; some = not-blank (window s k) b-is }) (inl (omega arith))
+
+  -- one that can be is
+  selectable-defined : (k : ℕ) → k ≢ 0 → selectable (s .windows) k ≡ true → Defined s k
+  selectable-defined k n e =
+      let f = selected-facts (s .windows) k e (ne-eqb k 0 n) in
+      record { first = f .0; last = f .1; some = λ q. let w = ltb-true 0 (window s k .width) (f .2) in wide q w }
+    where
+      wide : window s k ≡ noWindow → ¬ (0 < window s k .width)
+      wide q w = let z : window s k .width ≡ 0 = ap (λ (v : Window). v .width) q in omega arith
+
+-- ---- spans
+
+-- a row's span is wrong if the test of all fails
+spans-out : {P : Type 0} (ps : List Span)
+    → ((y : ℕ) → spanOk panel (getD ps y noSpan) ≡ false → P) → spansOk panel ps ≡ false → P
+spans-out [] f e = absurd (true≢false e)
+spans-out (p ∷ ps) f e = fails (spanOk panel p) (λ q. f 0 q) (λ q. spans-out ps (λ y. f (suc y)) q) e
+
+-- and each is right if it passes
+spans-in : (ps : List Span) (y : ℕ) → spansOk panel ps ≡ true → spanOk panel (getD ps y noSpan) ≡ true
+unfolding spanOk
+spans-in [] y e = refl
+spans-in (p ∷ ps) zero e = both-of (spanOk panel p) (spansOk panel ps) e .0
+spans-in (p ∷ ps) (suc y) e = spans-in ps y (both-of (spanOk panel p) (spansOk panel ps) e .1)
+
+-- a span is wrong if its test fails
+span-out : (p : Span) → spanOk panel p ≡ false → (p ≢ noSpan) × ((lastOf p < p .first) ⊎ (511 < lastOf p))
+unfolding spanOk panel
+span-out p e =
+    let n = neither (eqb (p .first) 0 && eqb (p .end) 0) _ e in
+    let some : ¬ ((p .first ≡ 0) × (p .end ≡ 0)) = λ z. true≢false (sym (rw (z .0, z .1)) ∙ n .0) in (
+      λ q. some (ap (λ (r : Span). r .first) q, ap (λ (r : Span). r .end) q),
+      fails (ltb (p .first) (p .end)) (λ h. ordered (ltb-false (p .first) (p .end) h) some)
+          (λ h. let m = leb-false (p .end) 512 h in inr (omega arith)) (n .1),
+    )
+  where
+    ordered : p .end ≤ p .first → ¬ ((p .first ≡ 0) × (p .end ≡ 0)) → (lastOf p < p .first) ⊎ (511 < lastOf p)
+    ordered l n = go (p .first) refl where
+      go : (f : ℕ) → p .first ≡ f → (lastOf p < p .first) ⊎ (511 < lastOf p)
+      go zero q = absurd (n (q, omega arith))
+      go (suc f) q = inl (omega arith)
+
+-- and right if it passes
+span-in : (p : Span) → spanOk panel p ≡ true → p ≢ noSpan → ¬ ((lastOf p < p .first) ⊎ (511 < lastOf p))
+unfolding spanOk panel
+span-in p e n o = go (eqb (p .first) 0 && eqb (p .end) 0) refl e o where
+  go : (t : Bool) → (eqb (p .first) 0 && eqb (p .end) 0) ≡ t → (t || (ltb (p .first) (p .end) && leb (p .end) 512)) ≡ true
+      → ¬ ((lastOf p < p .first) ⊎ (511 < lastOf p))
+  go true q h o = n (nothing-none p q)
+  go false q h (inl o) =
+      let f = both-of (ltb (p .first) (p .end)) (leb (p .end) 512) h in
+      let l = ltb-true (p .first) (p .end) (f .0) in
+      omega arith
+  go false q h (inr o) =
+      let f = both-of (ltb (p .first) (p .end)) (leb (p .end) 512) h in
+      let l = leb-true (p .end) 512 (f .1) in
+      omega arith
+
+-- ---- all of it
+
+module _ (s : State) where
+  -- a clause holds if the test fails
+  broken : accepted panel s ≡ false → Breaks s
+  unfolding accepted panel halfOk holdOk
+  broken =
+      fails (settingsOk (s .settings)) (λ e. setting-out (settings-out (s .settings) e))
+      (fails (windowsOk panel (s .windows)) (windows-out s)
+      (fails (cursorOk 512 2 (s .base)) (cursor-out 512 2 (s .base) base-cursor-outside base-mode-out)
+      (fails (selectable (s .windows) (s .selected))
+      (λ e. not-selectable s (s .selected) e (λ n d. undefined-selected n d))
+      (fails (holdOk (s .windows) (s .selected) (s .hold)) (hold-out (s .hold) refl)
+      (fails (halfOk panel (s .half)) (λ e. half-impossible (λ b. true≢false (sym (begins-ok panel (b .begins)) ∙ e)))
+      (spans-out (s .spans) (λ y e. let o = span-out (span s y) e in span-wrong y (o .0) (o .1))))))))
+    where
+      hold-out : (h : Hold) → s .hold ≡ h → holdOk (s .windows) (s .selected) h ≡ false → Breaks s
+      hold-out Free q = λ e. absurd (true≢false e)
+      hold-out (Held k back v) q =
+          fails (leb 1 k)
+          (λ e. let m = leb-false 1 k e in undefined-held k back v q (λ d. let l = d .first in omega arith))
+          (fails (eqb k (s .selected)) (λ e. held-not-selected k back v q (eqb-false k (s .selected) e))
+          (fails (selectable (s .windows) k) (λ e. not-selectable s k e (λ _ d. undefined-held k back v q d))
+          (fails (selectable (s .windows) back) (λ e. not-selectable s back e (λ n d. undefined-saved k back v q n d))
+          (λ e. saved-setting-out k back v q (settings-out v e)))))
+
+  -- none does if it passes
+  module _ (p : Parts panel s) where
+    -- a defined window is where it may be
+    window-in : (k : ℕ) → Defined s k
+        → (fits panel (window s k .left) (window s k .top) (window s k .width) (window s k .height) ≡ true)
+        × (cursorOk (window s k .width) (window s k .height) (window s k .cursor) ≡ true)
+    unfolding windowOk
+    window-in k d = go (isBlank (window s k)) refl (window-at panel (s .windows) k (p .windows) (d .first) (d .last)) where
+      w : Window
+      w = window s k
+
+      inside : Bool
+      inside = fits panel (w .left) (w .top) (w .width) (w .height)
+
+      go : (t : Bool) → isBlank w ≡ t → (t || (inside && cursorOk (w .width) (w .height) (w .cursor))) ≡ true
+          → (inside ≡ true) × (cursorOk (w .width) (w .height) (w .cursor) ≡ true)
+      go true q e = absurd (d .some (blank-none w q))
+      go false q e = both-of inside (cursorOk (w .width) (w .height) (w .cursor)) e
+
+    fits-in : (k : ℕ) → Defined s k
+        → (1 ≤ window s k .width) × (1 ≤ window s k .height) × (window s k .left + window s k .width ≤ 512)
+        × (window s k .top + window s k .height ≤ 2)
+    unfolding panel
+    fits-in k d = fits-facts panel _ _ _ _ (window-in k d .0)
+
+    -- what is held
+    held-in : (k back : ℕ) (v : Settings) → s .hold ≡ Held k back v → HeldWell (s .windows) (s .selected) k back v
+    held-in k back v q = hold-facts (s .windows) (s .selected) k back v (rw q at (p .hold))
+
+    none : Fits (s .half) → ¬ Breaks s
+    unfolding panel
+    none f (window-leaves k d (inl o)) = let i = fits-in k d in omega arith
+    none f (window-leaves k d (inr o)) = let i = fits-in k d in omega arith
+    none f (window-of-no-size k d (inl o)) = let i = fits-in k d in omega arith
+    none f (window-of-no-size k d (inr o)) = let i = fits-in k d in omega arith
+    none f (cursor-outside k d o) = cursor-inside _ _ (window s k .cursor) (window-in k d .1) o
+    none f (base-cursor-outside o) = cursor-inside 512 2 (s .base) (p .base) o
+    none f (setting-out o) = settings-in (s .settings) (in-domains (s .settings) (p .settings)) o
+    none f (mode-out k d o) = cursor-mode _ _ (window s k .cursor) (window-in k d .1) o
+    none f (base-mode-out o) = cursor-mode 512 2 (s .base) (p .base) o
+    none f (saved-setting-out k back v q o) = settings-in v (in-domains v (held-in k back v q .4)) o
+    none f (undefined-selected n u) = u (selectable-defined s (s .selected) n (p .selected))
+    none f (undefined-held k back v q u) =
+        let h = held-in k back v q in
+        let l = h .0 in
+        u (selectable-defined s k (λ z. omega arith) (h .2))
+    none f (undefined-saved k back v q n u) = u (selectable-defined s back n (held-in k back v q .3))
+    none f (held-not-selected k back v q n) = n (held-in k back v q .1)
+    none f (span-wrong y n o) = span-in (span s y) (spans-in (s .spans) y (p .spans)) n o
+    none f (half-impossible n) = n (ok-begins panel (s .half) (p .half) f)
+
+-- number 8 is given exactly if a clause of its row holds, for every record whose half-read numbers fit their types
+pub number-8 : (s : State) → Fits (s .half) → (accepted panel s ≡ false) ↔ Breaks s
+number-8 s f = (broken s, λ b. never (accepted panel s) (λ e. none s (parts panel s e) f b))

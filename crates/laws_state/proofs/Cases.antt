@@ -1,0 +1,88 @@
+-- What a byte comes to: nothing written, an image byte, or a command carried out. A law of all three is a law of every byte.
+-- Assumes nothing.
+use mathlib.Core.Path.{_≡_, refl}
+use mathlib.Core.Bool.{true, false, _&&_}
+use mathlib.Core.List.{List, []}
+use Prim.Native.Nat.{ℕ}
+use lib.Dec.{ltb}
+use Rattle.paper.specs.declared.Geometry.{Geometry}
+use Rattle.paper.specs.declared.Half.{Half}
+use Rattle.paper.specs.declared.Half.the-variants.{Nothing}
+use Rattle.paper.specs.declared.Command.{Command}
+use Rattle.paper.specs.declared.Reading.{Reading}
+use Rattle.paper.specs.declared.Reading.the-variants.{More, Whole, Picture, PictureEnd, Cancels, UnknownCode}
+use Rattle.paper.specs.declared.Outcome.{Outcome}
+use Rattle.paper.specs.declared.Outcome.the-variants.{Unfinished, Carried, OutOfDomain, Cancelled, Unknown, NotCarried, WindowHeld, TooLarge, NotDefined}
+use Rattle.paper.specs.declared.State.{State}
+use Rattle.paper.specs.Reading.{readOf}
+use Rattle.paper.specs.Settings.{withHalf, viewOf}
+use Rattle.paper.specs.Bounds.{halfOk}
+use Rattle.paper.specs.Carry.{Meaning, means, notCarried, isHeld, ownersOnly, outOfDomain, notDefined, cellExceeds, carriedOut, answers, commandOf, imageStrokes, takeOf, byteMeans}
+use Rattle.laws_bytes.specs.Readings.{commandOk, readingOk}
+use Rattle.laws_bytes.proofs.Readings.{reads-ok}
+use Rattle.laws_bytes.proofs.Tests.{both-of}
+use Rattle.laws_state.proofs.Tests.{by-cond}
+
+-- a command to which none of 14, 15, 11, 17 and 16 is answered
+pub record Allowed (g : Geometry) (s : State) (c : Command) : Type 0 where
+  pub carried : notCarried c ≡ false
+  pub owner : (ownersOnly c && isHeld (s .hold)) ≡ false
+  pub domain : outOfDomain g s c ≡ false
+  pub defined : notDefined s c ≡ false
+  pub room : cellExceeds g s c ≡ false
+
+module _ (g : Geometry) (font : List ℕ) (P : Meaning → Type 0) where
+  -- a command is answered, or it is carried out
+  pub by-command : (s : State) (c : Command) → ((o : Outcome) → P (answers s o)) → (Allowed g s c → P (carriedOut g font s c))
+      → P (commandOf g font s c)
+  unfolding commandOf
+  by-command s c answered done =
+      by-cond P (notCarried c) (λ _. answered NotCarried)
+      (λ e14. by-cond P (ownersOnly c && isHeld (s .hold)) (λ _. answered WindowHeld)
+      (λ e15. by-cond P (outOfDomain g s c) (λ _. answered OutOfDomain)
+      (λ e11. by-cond P (notDefined s c) (λ _. answered NotDefined)
+      (λ e17. by-cond P (cellExceeds g s c) (λ _. answered TooLarge)
+      (λ e16. done (record { carried = e14; owner = e15; domain = e11; defined = e17; room = e16 }))))))
+
+  -- by what is half read afterwards: nothing is written, an image byte is, or a command that is allowed is carried out
+  module _ (s : State) (quiet : (p : Half) (o : Outcome) → halfOk g p ≡ true → P (means (withHalf s p) o []))
+      (image : (p : Half) (o : Outcome) (column row b : ℕ) → halfOk g p ≡ true
+      → P (means (withHalf s p) o (imageStrokes (viewOf g s) (s .settings .style) column row b)))
+      (done : (c : Command) → commandOk c ≡ true → Allowed g (withHalf s Nothing) c
+      → P (carriedOut g font (withHalf s Nothing) c)) where
+    -- whatever is read
+    by-reading : (r : Reading) → readingOk g r ≡ true → P (takeOf g font s r)
+    unfolding takeOf readingOk halfOk
+    by-reading (More p) h = quiet p Unfinished h
+    by-reading (Whole c) h = by-command (withHalf s Nothing) c (λ o. quiet Nothing o refl) (done c h)
+    by-reading (Picture column row b next) h =
+        let f = both-of (ltb column (g .columns)) _ h in
+        image next Unfinished column row b (both-of (ltb row (g .rows)) (halfOk g next) (f .1) .1)
+    by-reading (PictureEnd column row b) h = image Nothing Carried column row b refl
+    by-reading Cancels h = quiet Nothing Cancelled refl
+    by-reading UnknownCode h = quiet Nothing Unknown refl
+
+    -- every byte
+    pub by-byte : (b : ℕ) → halfOk g (s .half) ≡ true → P (byteMeans g font s b)
+    unfolding byteMeans
+    by-byte b h = by-reading (readOf g (s .half) b) (reads-ok g (s .half) b h)
+
+  -- the same of a state of which nothing is known
+  module _ (s : State) (quiet : (p : Half) (o : Outcome) → P (means (withHalf s p) o []))
+      (image : (p : Half) (o : Outcome) (column row b : ℕ)
+      → P (means (withHalf s p) o (imageStrokes (viewOf g s) (s .settings .style) column row b)))
+      (done : (c : Command) → P (carriedOut g font (withHalf s Nothing) c)) where
+    -- whatever is read
+    any-reading : (r : Reading) → P (takeOf g font s r)
+    unfolding takeOf
+    any-reading (More p) = quiet p Unfinished
+    any-reading (Whole c) = by-command (withHalf s Nothing) c (quiet Nothing) (λ _. done c)
+    any-reading (Picture column row b next) = image next Unfinished column row b
+    any-reading (PictureEnd column row b) = image Nothing Carried column row b
+    any-reading Cancels = quiet Nothing Cancelled
+    any-reading UnknownCode = quiet Nothing Unknown
+
+    -- every byte
+    pub any-byte : (b : ℕ) → P (byteMeans g font s b)
+    unfolding byteMeans
+    any-byte b = any-reading (readOf g (s .half) b)

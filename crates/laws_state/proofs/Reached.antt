@@ -1,0 +1,61 @@
+-- What is reached byte by byte: the same feeding in the end, an accepted state, and counts that grow by one a byte at most.
+-- Assumes nothing.
+use mathlib.Core.Path.{_≡_, refl}
+use mathlib.Core.Bool.{true}
+use mathlib.Core.List.{List, [], _∷_}
+use Prim.Native.Nat.{ℕ, _+_, _≤_}
+use native.Mathlib.Omega.{arith}
+use lib.ListN.{length}
+use Rattle.paper.specs.declared.Geometry.{Geometry}
+use Rattle.paper.specs.declared.Outcome.{Outcome}
+use Rattle.paper.specs.declared.Outcome.the-variants.{Unfinished, Carried, OutOfDomain, Cancelled, Unknown, NotCarried, WindowHeld, TooLarge, NotDefined}
+use Rattle.paper.specs.Bounds.{accepted}
+use Rattle.paper.specs.Numbers.{carriedBy, answeredBy}
+use Rattle.paper.specs.Carry.{byteMeans}
+use Rattle.paper.specs.Calls.{Feeding, next, run}
+use Rattle.laws_state.specs.Room.{Usable}
+use Rattle.laws_state.specs.Runs.{Reaches, here, byte}
+use Rattle.laws_state.proofs.Accepted.{accepted-kept}
+
+-- a byte finishes at most one command
+pub one-at-most : (o : Outcome) → carriedBy o + answeredBy o ≤ 1
+unfolding carriedBy answeredBy
+one-at-most Unfinished = omega arith
+one-at-most Carried = omega arith
+one-at-most OutOfDomain = omega arith
+one-at-most Cancelled = omega arith
+one-at-most Unknown = omega arith
+one-at-most NotCarried = omega arith
+one-at-most WindowHeld = omega arith
+one-at-most TooLarge = omega arith
+one-at-most NotDefined = omega arith
+
+module _ {g : Geometry} {font : List ℕ} where
+  -- a byte, and from what it comes to
+  pub reaches-next : {x n y : Feeding} (b : ℕ) {bs rest : List ℕ} → next g font x b ≡ n → Reaches g font n bs y rest → Reaches g font x (b ∷ bs) y rest
+  reaches-next {x} {n} {y} b {bs} {rest} e p = byte {x = x} {y = y} {b = b} {bs = bs} {rest = rest} (rw e p)
+
+  -- one stretch after another
+  pub reaches-on : {x y z : Feeding} {bs cs rest : List ℕ} → Reaches g font x bs y cs → Reaches g font y cs z rest → Reaches g font x bs z rest
+  reaches-on here q = q
+  reaches-on (byte p) q = byte (reaches-on p q)
+
+  -- what is left is run over to the same end
+  pub reaches-run : {x y : Feeding} {bs rest : List ℕ} → Reaches g font x bs y rest → run g font x bs ≡ run g font y rest
+  reaches-run here = refl
+  reaches-run (byte p) = reaches-run p
+
+  -- an accepted state stays accepted
+  pub reaches-accepted : {x y : Feeding} {bs rest : List ℕ} → Usable g → Reaches g font x bs y rest → accepted g (x .answer .state) ≡ true
+      → accepted g (y .answer .state) ≡ true
+  unfolding next
+  reaches-accepted u here h = h
+  reaches-accepted {x} u (byte {b = b} p) h = reaches-accepted u p (accepted-kept g u font (x .answer .state) b h)
+
+  -- each byte counts once at most
+  pub reaches-counts : {x y : Feeding} {bs rest : List ℕ} → Reaches g font x bs y rest
+      → y .answer .carried + y .answer .answered + length rest ≤ x .answer .carried + x .answer .answered + length bs
+  unfolding next
+  reaches-counts here = omega arith
+  reaches-counts {x} (byte {b = b} p) =
+      omega (arith, reaches-counts p, one-at-most (byteMeans g font (x .answer .state) b .outcome))

@@ -1,0 +1,202 @@
+-- A run of characters, and a run of an image's bytes, come to what feeding their bytes one by one comes to. Assumes nothing.
+use mathlib.Core.Path.{_≡_, refl, sym, ap, _∙_}
+use mathlib.Core.Bool.{Bool, true, false, cond}
+use mathlib.Core.List.{List, [], _∷_}
+use Prim.Native.Nat.{ℕ, _+_, _<_, _≤_}
+use native.Mathlib.Nat.{add-zero}
+use native.Mathlib.Omega.{arith}
+use lib.ListN.{length}
+use lib.Dec.{leb, ltb, eqb}
+use borrow.Author.Tests.{ltb-true, ltb-false, lt-ltb, le-ltb, eqb-true, eqb-false, eq-eqb, ne-eqb}
+use Rattle.paper.specs.declared.Geometry.{Geometry}
+use Rattle.paper.specs.declared.Command.the-variants.{Character}
+use Rattle.paper.specs.declared.Half.{Half}
+use Rattle.paper.specs.declared.Half.the-variants.{Nothing, ImageData}
+use Rattle.paper.specs.declared.Outcome.{Outcome}
+use Rattle.paper.specs.declared.Outcome.the-variants.{Unfinished, Carried}
+use Rattle.paper.specs.declared.Refusal.{Refusal}
+use Rattle.paper.specs.declared.Span.{Span}
+use Rattle.paper.specs.declared.State.{State}
+use Rattle.paper.specs.declared.Style.{Style}
+use Rattle.paper.specs.declared.View.{View}
+use Rattle.paper.specs.Strokes.{applyAll, markAll}
+use Rattle.paper.specs.Numbers.{carriedBy, answeredBy}
+use Rattle.paper.specs.Reading.{readFirst, readImage, readOf}
+use Rattle.paper.specs.Settings.{withHalf, withSpans, withView, cursorIn, viewOf}
+use Rattle.paper.specs.Bounds.{accepted}
+use Rattle.paper.specs.Cells.{cellWidth, cellHeight}
+use Rattle.paper.specs.Moves.{Moved, characterOf}
+use Rattle.paper.specs.Carry.{Meaning, means, notCarried, ownersOnly, outOfDomain, notDefined, cellExceeds, exceeds, moves, carriedOut, commandOf, imageStrokes, takeOf, byteMeans}
+use Rattle.paper.specs.Calls.{Feeding, feeding, settled, counted, next}
+use Rattle.laws_state.specs.Room.{Usable, Room, Kept}
+use Rattle.laws_state.specs.Runs.{Reaches, here, Sheet, movedOn, writtenOn, Written, written, charactersOf, onSheet, Within, Image, storedOn, Stored, stored, picturesOf, halfAt, outcomeAt, doneAt, onImage}
+use Rattle.laws_state.proofs.Moves.{character-kept}
+use Rattle.laws_state.proofs.Views.{view-room}
+use Rattle.laws_state.proofs.Reached.{reaches-next}
+use Rattle.laws_state.proofs.Sheets.{at-settings, at-half, at-spans, sheet-twice, sheet-view, sheet-exceeds}
+
+-- ---- ranges
+
+-- a move that keeps its range stays within any range that it was within
+pub within-kept : (u v : View) (t : Moved) → Within u v → Kept v t → Within u (t .view)
+within-kept u v t i k =
+    record {
+      left = k .left ∙ i .left;
+      top = k .top ∙ i .top;
+      width = k .width ∙ i .width;
+      height = k .height ∙ i .height;
+      x = omega (arith, k .x, i .width);
+      y = omega (arith, k .y, i .height);
+    }
+
+-- a cell that has room has it with the cursor elsewhere
+pub within-room : (g : Geometry) (u v : View) (c l : ℕ) → Room g u c l → Within u v → Room g v c l
+within-room g u v c l r i = omega arith
+
+-- ---- characters
+
+module _ (g : Geometry) (font : List ℕ) where
+  -- a character that comes while nothing is half read and a cell has room
+  pub character-means : (s : State) (b : ℕ) → s .half ≡ Nothing → leb 0x20 b ≡ true → exceeds g s ≡ false
+      → byteMeans g font s b ≡ moves s (characterOf g font (s .settings .width) (s .settings .style) b (viewOf g s))
+  unfolding byteMeans readOf readFirst takeOf commandOf notCarried ownersOnly outOfDomain notDefined cellExceeds carriedOut
+  character-means s b n l e = first ∙ second ∙ third where
+    first : takeOf g font s (readOf g (s .half) b) ≡ commandOf g font (withHalf s Nothing) (Character b)
+    first = ap (λ (p : Half). takeOf g font s (readOf g p b)) n ∙ rw l
+
+    second : commandOf g font (withHalf s Nothing) (Character b) ≡ commandOf g font s (Character b)
+    second = ap (λ (p : Half). commandOf g font (withHalf s p) (Character b)) (sym n)
+
+    third : commandOf g font s (Character b) ≡ moves s (characterOf g font (s .settings .width) (s .settings .style) b (viewOf g s))
+    third = rw e
+
+  -- a move of a state that a sheet was put into is a move of the sheet
+  settled-on : (s : State) (h : Sheet) (t : Moved) → settled (moves (onSheet s h) t) ≡ onSheet s (movedOn g h t)
+  settled-on s h t =
+      ap (λ (ps : List Span). withSpans (withView (onSheet s h) (t .view)) (markAll ps (t .strokes))) (at-spans (onSheet s h) (cursorIn (onSheet s h) (t .view)))
+      ∙ sheet-twice s (h .view) (t .view) (h .spans) (markAll (h .spans) (t .strokes))
+
+  module _ (u : Usable g) (s : State) (ok : accepted g s ≡ true) (free : s .half ≡ Nothing) (room : exceeds g s ≡ false)
+      (r : Refusal) (a : ℕ) where
+    -- the sheet after a character, in the state's settings
+    abbrev pub penned : Sheet → ℕ → Sheet
+    penned h b = writtenOn g font (s .settings .width) (s .settings .style) h b
+
+    -- the cursor stays in the range
+    pub penned-within : (h : Sheet) (b : ℕ) → Within (viewOf g s) (h .view) → Within (viewOf g s) (penned h b .view)
+    penned-within h b i =
+        within-kept (viewOf g s) (h .view) _ i
+        (character-kept g font (s .settings .width) (s .settings .style) b (h .view)
+        (within-room g (viewOf g s) (h .view) _ _ (view-room g u s ok room) i))
+
+    -- one character
+    pub character-next : (h : Sheet) (c : ℕ) (o : Outcome) (b : ℕ) → Within (viewOf g s) (h .view) → leb 0x20 b ≡ true
+        → next g font (feeding r (onSheet s h) c a o (h .mem)) b
+        ≡ feeding r (onSheet s (penned h b)) (c + 1) a Carried (penned h b .mem)
+    unfolding next carriedBy answeredBy
+    character-next h c o b i l =
+        ap (counted g (feeding r (onSheet s h) c a o (h .mem))) meaning
+        ∙ ap (λ (q : State). feeding r q (c + 1) (a + 0) Carried (penned h b .mem)) (settled-on s h (characterOf g font (s .settings .width) (s .settings .style) b (h .view)))
+        ∙ ap (λ (n : ℕ). feeding r (onSheet s (penned h b)) (c + 1) n Carried (penned h b .mem)) (omega arith)
+      where
+        part : g .visible ≤ g .columns
+        part = omega (arith, u .visible-part)
+
+        meaning : byteMeans g font (onSheet s h) b
+            ≡ moves (onSheet s h) (characterOf g font (s .settings .width) (s .settings .style) b (h .view))
+        meaning =
+            character-means (onSheet s h) b (at-half s (cursorIn s (h .view)) ∙ free) l (sheet-exceeds g part s h i ∙ room)
+            ∙ rw (sheet-view g part s h i, at-settings s (cursorIn s (h .view)))
+
+    -- THE LAW: after a character, those that follow it are reached as a run, each counted
+    pub characters-reached : (bs : List ℕ) (h : Sheet) (c d : ℕ) → Within (viewOf g s) (h .view)
+        → let t = charactersOf g font (s .settings .width) (s .settings .style) h bs in
+        d + length (t .rest) ≡ c + length bs
+        → Reaches g font (feeding r (onSheet s h) c a Carried (h .mem)) bs (feeding r (onSheet s (t .on)) d a Carried (t .on .mem)) (t .rest)
+    characters-reached [] h c d i e = rw n here where
+      n : d ≡ c
+      n = omega arith
+    characters-reached (b ∷ bs) h c d i e = go (leb 0x20 b) refl e (characters-reached bs (penned h b) (c + 1) d (penned-within h b i)) where
+      again : Written
+      again = charactersOf g font (s .settings .width) (s .settings .style) (penned h b) bs
+
+      go : (z : Bool) → leb 0x20 b ≡ z
+          → let t = cond z again (written h (b ∷ bs)) in
+          d + length (t .rest) ≡ c + length (b ∷ bs)
+          → (d + length (again .rest) ≡ (c + 1) + length bs
+          → Reaches g font (feeding r (onSheet s (penned h b)) (c + 1) a Carried (penned h b .mem)) bs
+          (feeding r (onSheet s (again .on)) d a Carried (again .on .mem)) (again .rest))
+          → Reaches g font (feeding r (onSheet s h) c a Carried (h .mem)) (b ∷ bs) (feeding r (onSheet s (t .on)) d a Carried (t .on .mem)) (t .rest)
+      go true l e more =
+          reaches-next b (character-next h c Carried b i l) (more (omega arith))
+      go false l e more = rw n here where
+        n : d ≡ c
+        n = omega arith
+
+-- ---- an image's bytes
+
+-- the column of the next byte, while the image is not whole
+pub column-next : (z : Bool) (column width : ℕ) → column < width → eqb (cond z column (column + 1)) width ≡ false → cond z column (column + 1) < width
+column-next true column width l e = l
+column-next false column width l e = let n = eqb-false (column + 1) width e in omega arith
+
+module _ (g : Geometry) (font : List ℕ) (s : State) (r : Refusal) (a width height : ℕ) where
+  -- the image after a byte, in the state's range and settings
+  abbrev pub imaged : Image → ℕ → Image
+  imaged i b = storedOn g (viewOf g s) (s .settings .style) height i b
+
+  -- the image's next byte is awaited
+  abbrev pub awaiting : Image → State
+  awaiting i = withHalf (withSpans s (i .spans)) (ImageData width height (i .column) (i .row))
+
+  -- one byte of an image
+  pub picture-next : (i : Image) (c : ℕ) (o : Outcome) (b : ℕ) → i .column < width
+      → next g font (feeding r (awaiting i) c a o (i .mem)) b
+      ≡ feeding r (onImage s width height (imaged i b)) (c + doneAt width (imaged i b)) a (outcomeAt width (imaged i b)) (imaged i b .mem)
+  unfolding next byteMeans readOf readImage takeOf viewOf carriedBy answeredBy
+  picture-next i c o b l =
+      go (ltb (i .row + 1) height) refl (ltb (i .column + 1) width) refl
+      ∙ ap (λ (n : ℕ). feeding r (onImage s width height (imaged i b)) (c + doneAt width (imaged i b)) n (outcomeAt width (imaged i b)) (imaged i b .mem)) (add-zero a)
+    where
+      go : (z : Bool) → ltb (i .row + 1) height ≡ z → (q : Bool) → ltb (i .column + 1) width ≡ q
+          → next g font (feeding r (awaiting i) c a o (i .mem)) b
+          ≡ feeding r (onImage s width height (imaged i b)) (c + doneAt width (imaged i b)) (a + 0) (outcomeAt width (imaged i b)) (imaged i b .mem)
+      go true e q f = rw (e, ne-eqb (i .column) width (omega arith))
+      go false e true f = let k = ltb-true (i .column + 1) width f in rw (e, f, ne-eqb (i .column + 1) width (omega arith))
+      go false e false f = let k = ltb-false (i .column + 1) width f in rw (e, f, eq-eqb (i .column + 1) width (omega arith))
+
+  -- a byte of an image, and then those that follow it, whatever the byte before came to
+  picture-then : (o : Outcome) (b : ℕ) (bs : List ℕ) (i : Image) (c : ℕ) → i .column < width
+      → let again = picturesOf g (viewOf g s) (s .settings .style) width height (imaged i b) bs in
+      (imaged i b .column < width
+      → Reaches g font (feeding r (awaiting (imaged i b)) c a Unfinished (imaged i b .mem)) bs
+      (feeding r (onImage s width height (again .on)) (c + doneAt width (again .on)) a (outcomeAt width (again .on)) (again .on .mem)) (again .rest))
+      → let t = picturesOf g (viewOf g s) (s .settings .style) width height i (b ∷ bs) in
+      Reaches g font (feeding r (awaiting i) c a o (i .mem)) (b ∷ bs)
+      (feeding r (onImage s width height (t .on)) (c + doneAt width (t .on)) a (outcomeAt width (t .on)) (t .on .mem)) (t .rest)
+  picture-then o b bs i c l more = go (eqb (imaged i b .column) width) refl where
+    again : Stored
+    again = picturesOf g (viewOf g s) (s .settings .style) width height (imaged i b) bs
+
+    go : (z : Bool) → eqb (imaged i b .column) width ≡ z
+        → let t = cond z (stored (imaged i b) bs) again in
+        Reaches g font (feeding r (awaiting i) c a o (i .mem)) (b ∷ bs)
+        (feeding r (onImage s width height (t .on)) (c + doneAt width (t .on)) a (outcomeAt width (t .on)) (t .on .mem)) (t .rest)
+    go true e = reaches-next b (picture-next i c o b l) here
+    go false e =
+        reaches-next b (picture-next i c o b l ∙ rw (e, add-zero c)) (more (column-next (ltb (i .row + 1) height) (i .column) width l e))
+
+  -- after a byte of an image, those that follow it
+  pictures-after : (bs : List ℕ) (i : Image) (c : ℕ) → i .column < width
+      → let t = picturesOf g (viewOf g s) (s .settings .style) width height i bs in
+      Reaches g font (feeding r (awaiting i) c a Unfinished (i .mem)) bs
+      (feeding r (onImage s width height (t .on)) (c + doneAt width (t .on)) a (outcomeAt width (t .on)) (t .on .mem)) (t .rest)
+  pictures-after [] i c l = rw (ne-eqb (i .column) width (omega arith), add-zero c) here
+  pictures-after (b ∷ bs) i c l = picture-then Unfinished b bs i c l (pictures-after bs (imaged i b) c)
+
+  -- THE LAW: an image's bytes are reached as a run, the whole image counted
+  pub pictures-reached : (o : Outcome) (b : ℕ) (bs : List ℕ) (i : Image) (c : ℕ) → i .column < width
+      → let t = picturesOf g (viewOf g s) (s .settings .style) width height i (b ∷ bs) in
+      Reaches g font (feeding r (awaiting i) c a o (i .mem)) (b ∷ bs)
+      (feeding r (onImage s width height (t .on)) (c + doneAt width (t .on)) a (outcomeAt width (t .on)) (t .on .mem)) (t .rest)
+  pictures-reached o b bs i c l = picture-then o b bs i c l (pictures-after bs (imaged i b) c)

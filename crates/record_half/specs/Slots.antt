@@ -1,0 +1,118 @@
+-- What is half read, laid flat: the number of its case, and its parameters. docs/RECORD.md has the same as a table.
+-- Assumes nothing.
+use Prim.Native.Nat.{ℕ}
+use mathlib.Core.Bool.{cond}
+use lib.Dec.{eqb}
+use Rattle.paper.specs.declared.Key.{Key}
+use Rattle.paper.specs.declared.Key.the-variants.{Charset, Codes, Shown, Brightness, Reverse, Speed, Mixing, Width, Write}
+use Rattle.paper.specs.declared.Word.{Word}
+use Rattle.paper.specs.declared.Word.the-variants.{CursorX, CursorY, WindowLeft, WindowTop, WindowWidth, WindowHeight, ImageWidth, ImageHeight}
+use Rattle.paper.specs.declared.Half.{Half}
+use Rattle.paper.specs.declared.Half.the-variants.{Nothing, Escape, Unit, Group, Actions, Pictures, Characters, Windows, Value, Rest, DefineA, DefineFrom, DefineTo, GlyphWidth, GlyphByte, Low, High, ImageKind, ImageData, EnlargeX, EnlargeY, SelectA, WindowA, WindowB}
+use Rattle.record_half.specs.declared.Slots.{Slots}
+
+abbrev pub slots : ℕ → ℕ → ℕ → ℕ → ℕ → ℕ → ℕ → ℕ → Slots
+slots n a b c p q r s = record { case = n; a = a; b = b; c = c; p = p; q = q; r = r; s = s }
+
+-- a case with no parameters; a case with bytes alone
+abbrev pub bare : ℕ → Slots
+bare n = slots n 0 0 0 0 0 0 0
+
+abbrev pub bytes : ℕ → ℕ → ℕ → ℕ → Slots
+bytes n a b c = slots n a b c 0 0 0 0
+
+-- ---- the setting whose parameter is awaited
+
+unfoldable pub keyNumber : Key → ℕ
+keyNumber Charset = 0
+keyNumber Codes = 1
+keyNumber Shown = 2
+keyNumber Brightness = 3
+keyNumber Reverse = 4
+keyNumber Speed = 5
+keyNumber Mixing = 6
+keyNumber Width = 7
+keyNumber Write = 8
+
+unfoldable pub keyOf : ℕ → Key
+keyOf n =
+    cond (eqb n 1) Codes
+    (cond (eqb n 2) Shown
+    (cond (eqb n 3) Brightness
+    (cond (eqb n 4) Reverse
+    (cond (eqb n 5) Speed (cond (eqb n 6) Mixing (cond (eqb n 7) Width (cond (eqb n 8) Write Charset)))))))
+
+-- ---- the 16-bit parameter that is awaited
+
+-- case n, with the parameter's number in a, the window in b, its low byte in c, the parameters before it in p, q, r
+unfoldable pub wordSlots : ℕ → ℕ → Word → Slots
+wordSlots n low CursorX = bytes n 0 0 low
+wordSlots n low (CursorY x) = slots n 1 0 low x 0 0 0
+wordSlots n low (WindowLeft a) = bytes n 2 a low
+wordSlots n low (WindowTop a left) = slots n 3 a low left 0 0 0
+wordSlots n low (WindowWidth a left top) = slots n 4 a low left top 0 0
+wordSlots n low (WindowHeight a left top width) = slots n 5 a low left top width 0
+wordSlots n low ImageWidth = bytes n 6 0 low
+wordSlots n low (ImageHeight width) = slots n 7 0 low width 0 0 0
+
+unfoldable pub wordOf : ℕ → ℕ → ℕ → ℕ → ℕ → Word
+wordOf n a p q r =
+    cond (eqb n 1) (CursorY p)
+    (cond (eqb n 2) (WindowLeft a)
+    (cond (eqb n 3) (WindowTop a p)
+    (cond (eqb n 4) (WindowWidth a p q)
+    (cond (eqb n 5) (WindowHeight a p q r) (cond (eqb n 6) ImageWidth (cond (eqb n 7) (ImageHeight p) CursorX))))))
+
+-- ---- what is half read
+
+unfoldable pub halfSlots : Half → Slots
+halfSlots Nothing = bare 0
+halfSlots Escape = bare 1
+halfSlots Unit = bare 2
+halfSlots Group = bare 3
+halfSlots Actions = bare 4
+halfSlots Pictures = bare 5
+halfSlots Characters = bare 6
+halfSlots Windows = bare 7
+halfSlots (Value key) = bytes 8 (keyNumber key) 0 0
+halfSlots (Rest left) = bytes 9 left 0 0
+halfSlots DefineA = bare 10
+halfSlots DefineFrom = bare 11
+halfSlots (DefineTo from) = bytes 12 from 0 0
+halfSlots (GlyphWidth code last) = bytes 13 code last 0
+halfSlots (GlyphByte code last left) = bytes 14 code last left
+halfSlots (Low word) = wordSlots 15 0 word
+halfSlots (High word low) = wordSlots 16 low word
+halfSlots (ImageKind width height) = slots 17 0 0 0 width height 0 0
+halfSlots (ImageData width height column row) = slots 18 0 0 0 width height column row
+halfSlots EnlargeX = bare 19
+halfSlots (EnlargeY x) = bytes 20 x 0 0
+halfSlots SelectA = bare 21
+halfSlots WindowA = bare 22
+halfSlots (WindowB a) = bytes 23 a 0 0
+
+-- a number of no case is taken for nothing half read, whose own number is another
+unfoldable pub halfOf : Slots → Half
+halfOf t =
+    cond (eqb (t .case) 1) Escape
+    (cond (eqb (t .case) 2) Unit
+    (cond (eqb (t .case) 3) Group
+    (cond (eqb (t .case) 4) Actions
+    (cond (eqb (t .case) 5) Pictures
+    (cond (eqb (t .case) 6) Characters
+    (cond (eqb (t .case) 7) Windows
+    (cond (eqb (t .case) 8) (Value (keyOf (t .a)))
+    (cond (eqb (t .case) 9) (Rest (t .a))
+    (cond (eqb (t .case) 10) DefineA
+    (cond (eqb (t .case) 11) DefineFrom
+    (cond (eqb (t .case) 12) (DefineTo (t .a))
+    (cond (eqb (t .case) 13) (GlyphWidth (t .a) (t .b))
+    (cond (eqb (t .case) 14) (GlyphByte (t .a) (t .b) (t .c))
+    (cond (eqb (t .case) 15) (Low (wordOf (t .a) (t .b) (t .p) (t .q) (t .r)))
+    (cond (eqb (t .case) 16) (High (wordOf (t .a) (t .b) (t .p) (t .q) (t .r)) (t .c))
+    (cond (eqb (t .case) 17) (ImageKind (t .p) (t .q))
+    (cond (eqb (t .case) 18) (ImageData (t .p) (t .q) (t .r) (t .s))
+    (cond (eqb (t .case) 19) EnlargeX
+    (cond (eqb (t .case) 20) (EnlargeY (t .a))
+    (cond (eqb (t .case) 21) SelectA
+    (cond (eqb (t .case) 22) WindowA (cond (eqb (t .case) 23) (WindowB (t .a)) Nothing))))))))))))))))))))))

@@ -1,0 +1,217 @@
+// Slots: what is half read, laid flat as a case's number and its parameters, and back. No case of an enum crosses to C.
+// It uses the paper alone; docs/RECORD.md has the numbers.
+ghost use mathlib.Core.Path.{_≡_};
+ghost use Rattle.record_half.specs.Slots.{slots, keyNumber, keyOf, wordSlots, wordOf, halfSlots, halfOf};
+use paper::Half;
+use paper::Key;
+use paper::Word;
+
+// The case's number, and its parameters from the left: bytes in a, b, c and 16-bit ones in p, q, r, s. What a case does not
+// use is 0.
+pub struct Slots {
+    pub case: u8,
+    pub a: u8,
+    pub b: u8,
+    pub c: u8,
+    pub p: u16,
+    pub q: u16,
+    pub r: u16,
+    pub s: u16,
+}
+
+// A case with bytes alone.
+fn narrow(case: u8, a: u8, b: u8, c: u8) -> Slots
+    ensures { λ t. ⌜ t ≡ slots case a b c 0 0 0 0 ⌝ }
+{
+    wide(case, a, b, c, 0, 0, 0, 0)
+}
+
+// A case with 16-bit parameters.
+fn wide(case: u8, a: u8, b: u8, c: u8, p: u16, q: u16, r: u16, s: u16) -> Slots
+    ensures { λ t. ⌜ t ≡ slots case a b c p q r s ⌝ }
+{
+    Slots {
+        case,
+        a,
+        b,
+        c,
+        p,
+        q,
+        r,
+        s,
+    }
+}
+
+// ---- a setting
+
+// A setting's number.
+fn key_number(key: Key) -> u8
+    ensures { λ n. ⌜ n ≡ keyNumber key ⌝ }
+{
+    match key {
+        Key::Charset => 0,
+        Key::Codes => 1,
+        Key::Shown => 2,
+        Key::Brightness => 3,
+        Key::Reverse => 4,
+        Key::Speed => 5,
+        Key::Mixing => 6,
+        Key::Width => 7,
+        Key::Write => 8,
+    }
+}
+
+// The setting of a number; what numbers none is taken for the first, whose number is another.
+fn key_of(n: u8) -> Key
+    ensures { λ r. ⌜ r ≡ keyOf n ⌝ }
+{
+    match n {
+        1 => Key::Codes,
+        2 => Key::Shown,
+        3 => Key::Brightness,
+        4 => Key::Reverse,
+        5 => Key::Speed,
+        6 => Key::Mixing,
+        7 => Key::Width,
+        8 => Key::Write,
+        _ => Key::Charset,
+    }
+}
+
+// ---- a 16-bit parameter
+
+// An awaited 16-bit parameter in a case: its number in a, the window in b, its low byte in c, the parameters before it in p, q, r.
+fn word_slots(case: u8, low: u8, word: Word) -> Slots
+    ensures { λ t. ⌜ t ≡ wordSlots case low word ⌝ }
+{
+    match word {
+        Word::CursorX => narrow(case, 0, 0, low),
+        Word::CursorY { x } => wide(case, 1, 0, low, x, 0, 0, 0),
+        Word::WindowLeft { a } => narrow(case, 2, a, low),
+        Word::WindowTop { a, left } => wide(case, 3, a, low, left, 0, 0, 0),
+        Word::WindowWidth { a, left, top } => wide(case, 4, a, low, left, top, 0, 0),
+        Word::WindowHeight {
+            a,
+            left,
+            top,
+            width,
+        } => wide(case, 5, a, low, left, top, width, 0),
+        Word::ImageWidth => narrow(case, 6, 0, low),
+        Word::ImageHeight { width } => wide(case, 7, 0, low, width, 0, 0, 0),
+    }
+}
+
+// The awaited 16-bit parameter that slots say.
+fn word_of(n: u8, a: u8, p: u16, q: u16, r: u16) -> Word
+    ensures { λ w. ⌜ w ≡ wordOf n a p q r ⌝ }
+{
+    match n {
+        1 => Word::CursorY { x: p },
+        2 => Word::WindowLeft { a },
+        3 => Word::WindowTop { a, left: p },
+        4 => Word::WindowWidth { a, left: p, top: q },
+        5 => Word::WindowHeight {
+            a,
+            left: p,
+            top: q,
+            width: r,
+        },
+        6 => Word::ImageWidth,
+        7 => Word::ImageHeight { width: p },
+        _ => Word::CursorX,
+    }
+}
+
+// ---- what is half read
+
+// What is half read, laid flat.
+pub fn half_slots(half: Half) -> Slots
+    ensures { λ t. ⌜ t ≡ halfSlots half ⌝ }
+{
+    match half {
+        Half::Nothing => narrow(0, 0, 0, 0),
+        Half::Escape => narrow(1, 0, 0, 0),
+        Half::Unit => narrow(2, 0, 0, 0),
+        Half::Group => narrow(3, 0, 0, 0),
+        Half::Actions => narrow(4, 0, 0, 0),
+        Half::Pictures => narrow(5, 0, 0, 0),
+        Half::Characters => narrow(6, 0, 0, 0),
+        Half::Windows => narrow(7, 0, 0, 0),
+        Half::Value(key) => narrow(8, key_number(key), 0, 0),
+        Half::Rest { left } => narrow(9, left, 0, 0),
+        Half::DefineA => narrow(10, 0, 0, 0),
+        Half::DefineFrom => narrow(11, 0, 0, 0),
+        Half::DefineTo { from } => narrow(12, from, 0, 0),
+        Half::GlyphWidth { code, last } => narrow(13, code, last, 0),
+        Half::GlyphByte { code, last, left } => narrow(14, code, last, left),
+        Half::Low(word) => word_slots(15, 0, word),
+        Half::High { word, low } => word_slots(16, low, word),
+        Half::ImageKind { width, height } => wide(17, 0, 0, 0, width, height, 0, 0),
+        Half::ImageData {
+            width,
+            height,
+            column,
+            row,
+        } => wide(18, 0, 0, 0, width, height, column, row),
+        Half::EnlargeX => narrow(19, 0, 0, 0),
+        Half::EnlargeY { x } => narrow(20, x, 0, 0),
+        Half::SelectA => narrow(21, 0, 0, 0),
+        Half::WindowA => narrow(22, 0, 0, 0),
+        Half::WindowB { a } => narrow(23, a, 0, 0),
+    }
+}
+
+// What is half read, from its slots; what numbers no case is taken for nothing, whose number is another.
+pub fn half_of(t: Slots) -> Half
+    ensures { λ h. ⌜ h ≡ halfOf t ⌝ }
+{
+    let case = t.case;
+    let a = t.a;
+    let b = t.b;
+    let c = t.c;
+    let p = t.p;
+    let q = t.q;
+    let r = t.r;
+    let s = t.s;
+    match case {
+        1 => Half::Escape,
+        2 => Half::Unit,
+        3 => Half::Group,
+        4 => Half::Actions,
+        5 => Half::Pictures,
+        6 => Half::Characters,
+        7 => Half::Windows,
+        8 => Half::Value(key_of(a)),
+        9 => Half::Rest { left: a },
+        10 => Half::DefineA,
+        11 => Half::DefineFrom,
+        12 => Half::DefineTo { from: a },
+        13 => Half::GlyphWidth { code: a, last: b },
+        14 => Half::GlyphByte {
+            code: a,
+            last: b,
+            left: c,
+        },
+        15 => Half::Low(word_of(a, b, p, q, r)),
+        16 => Half::High {
+            word: word_of(a, b, p, q, r),
+            low: c,
+        },
+        17 => Half::ImageKind {
+            width: p,
+            height: q,
+        },
+        18 => Half::ImageData {
+            width: p,
+            height: q,
+            column: r,
+            row: s,
+        },
+        19 => Half::EnlargeX,
+        20 => Half::EnlargeY { x: a },
+        21 => Half::SelectA,
+        22 => Half::WindowA,
+        23 => Half::WindowB { a },
+        _ => Half::Nothing,
+    }
+}

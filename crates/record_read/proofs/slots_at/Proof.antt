@@ -1,0 +1,32 @@
+-- `slots_at` meets its contract. Assumes nothing.
+use borrow.Author.Needs.{needs}
+use Rattle.record_read.specs.Record.{slotsAt}
+use Rattle.record_read.proofs.slots_at.Statement.{statement}
+use Rattle.record_read.proofs.slots_at.Tie as tie
+
+pub slots-at-spec : {M : Type 1} → statement M
+unfolding slotsAt
+slots-at-spec =
+    tie.close
+    (tie.spec
+    (λ c. search needs)
+    (λ c. search needs)
+    (λ c. search needs)
+    (λ c. search needs)
+    (λ c. search needs)
+    (λ c. search needs)
+    (λ c. search needs)
+    (λ c. search needs)
+    (λ c κs. search needs)
+    (λ c. search needs)
+    (λ c κs. search needs)
+    (λ c. search needs)
+    (λ c κs. search needs)
+    (λ c. search needs)
+    (λ c κs. search needs)
+    (λ c. rw (
+      c .before .before .before .word-at .ensures,
+      c .before .before .word-at2 .ensures,
+      c .before .word-at3 .ensures,
+      c .word-at4 .ensures,
+    )))

@@ -1,0 +1,207 @@
+// The codec: the state that a record of 103 bytes stands for. docs/RECORD.md has the layout.
+// It uses the paper, slots for what is half read, and the encoder, to see whether the bytes are those of a state.
+ghost use mathlib.Core.Path.{_≡_};
+ghost use mathlib.Core.Bool.{true};
+ghost use Prim.Native.Nat.{_+_, _*_, _≤_};
+ghost use lib.ListN.{length};
+ghost use Rattle.record_write.specs.Bytes.{recordLength};
+ghost use Rattle.record_read.specs.Record.{wordAt, settingsAt, cursorAt, windowFrom, spanAt, holdAt, slotsAt, decodedWith, Idle, same, stateOf};
+use paper::Cursor;
+use paper::Half;
+use paper::Hold;
+use paper::Settings;
+use paper::Span;
+use paper::State;
+use paper::Style;
+use paper::Window;
+use record_half::Slots;
+
+// ---- the state of bytes
+
+// A 16-bit number of its two bytes.
+fn joined(low: u8, high: u8) -> u16
+    ensures { λ n. ⌜ n ≡ low + 256 * high ⌝ }
+{
+    (low as u16) + 256 * (high as u16)
+}
+
+// A 16-bit number.
+fn word_at(l: &[u8], i: usize) -> u16
+    requires { ⌜ i + 2 ≤ length (now l) ⌝ }
+    ensures { λ n. ⌜ n ≡ wordAt (now (l .entry)) i ⌝ }
+{
+    joined(l[i], l[i + 1])
+}
+
+// The settings.
+fn settings_at(l: &[u8], i: usize) -> Settings
+    requires { ⌜ i + 11 ≤ length (now l) ⌝ }
+    ensures { λ v. ⌜ v ≡ settingsAt (now (l .entry)) i ⌝ }
+{
+    let style = Style {
+        reverse: l[i + 7],
+        mixing: l[i + 8],
+        across: l[i + 9],
+        down: l[i + 10],
+    };
+    Settings {
+        charset: l[i],
+        codes: l[i + 1],
+        shown: l[i + 2],
+        brightness: l[i + 3],
+        speed: l[i + 4],
+        width: l[i + 5],
+        write: l[i + 6],
+        style,
+    }
+}
+
+// A cursor and its mode.
+fn cursor_at(l: &[u8], i: usize) -> Cursor
+    requires { ⌜ i + 5 ≤ length (now l) ⌝ }
+    ensures { λ k. ⌜ k ≡ cursorAt (now (l .entry)) i ⌝ }
+{
+    Cursor {
+        x: word_at(l, i),
+        y: word_at(l, i + 2),
+        mode: l[i + 4],
+    }
+}
+
+// A user window.
+fn window_from(l: &[u8], i: usize) -> Window
+    requires { ⌜ i + 13 ≤ length (now l) ⌝ }
+    ensures { λ w. ⌜ w ≡ windowFrom (now (l .entry)) i ⌝ }
+{
+    let cursor = cursor_at(l, i + 8);
+    Window {
+        left: word_at(l, i),
+        top: word_at(l, i + 2),
+        width: word_at(l, i + 4),
+        height: word_at(l, i + 6),
+        cursor,
+    }
+}
+
+// A span.
+fn span_at(l: &[u8], i: usize) -> Span
+    requires { ⌜ i + 4 ≤ length (now l) ⌝ }
+    ensures { λ p. ⌜ p ≡ spanAt (now (l .entry)) i ⌝ }
+{
+    Span {
+        first: word_at(l, i),
+        end: word_at(l, i + 2),
+    }
+}
+
+// What is held; a first byte other than 1 is taken for nothing, whose bytes are others.
+fn hold_at(l: &[u8], i: usize) -> Hold
+    requires { ⌜ i + 14 ≤ length (now l) ⌝ }
+    ensures { λ h. ⌜ h ≡ holdAt (now (l .entry)) i ⌝ }
+{
+    if l[i] == 1 {
+        let settings = settings_at(l, i + 3);
+        return Hold::Held {
+            window: l[i + 1],
+            selected: l[i + 2],
+            settings,
+        };
+    }
+    Hold::Free
+}
+
+// What is half read, laid flat.
+fn slots_at(l: &[u8], i: usize) -> Slots
+    requires { ⌜ i + 12 ≤ length (now l) ⌝ }
+    ensures { λ t. ⌜ t ≡ slotsAt (now (l .entry)) i ⌝ }
+{
+    Slots {
+        case: l[i],
+        a: l[i + 1],
+        b: l[i + 2],
+        c: l[i + 3],
+        p: word_at(l, i + 4),
+        q: word_at(l, i + 6),
+        r: word_at(l, i + 8),
+        s: word_at(l, i + 10),
+    }
+}
+
+// The state that bytes give, with this held and this half read.
+fn decode_with(l: &[u8], hold: Hold, half: Half) -> State
+    requires { ⌜ length (now l) ≡ recordLength ⌝ }
+    ensures { λ s. ⌜ s ≡ decodedWith (now (l .entry)) hold half ⌝ }
+{
+    let settings = settings_at(l, 0);
+    let a = window_from(l, 11);
+    let b = window_from(l, 24);
+    let c = window_from(l, 37);
+    let d = window_from(l, 50);
+    let base = cursor_at(l, 63);
+    let p = span_at(l, 95);
+    let q = span_at(l, 99);
+    State {
+        settings,
+        windows: [a, b, c, d],
+        base,
+        selected: l[68],
+        hold,
+        half,
+        spans: [p, q],
+    }
+}
+
+// ---- the state that a record stands for
+
+// Whether two records are the same.
+fn is_same(a: &[u8], b: &[u8]) -> bool
+    requires { ⌜ length (now a) ≡ length (now b) ⌝ }
+    ensures { λ r. ⌜ r ≡ same (now (a .entry)) (now (b .entry)) ⌝ }
+{
+    let mut r = true;
+    for i in 0..a.len() {
+        r = r & (a[i] == b[i]);
+    }
+    r
+}
+
+// Whether the bytes of what is held and of what is half read are all 0.
+fn is_idle(l: &[u8]) -> bool
+    requires { ⌜ length (now l) ≡ recordLength ⌝ }
+    ensures { λ r. ⌜ (r ≡ true → Idle (now (l .entry))) ⌝ }
+{
+    let mut r = true;
+    for j in 69..95 {
+        r = r & (l[j] == 0);
+    }
+    r
+}
+
+// The state that a record stands for, with something held or half read: the record is compared with that state's own.
+fn busy_state_of(l: &[u8]) -> State
+    requires { ⌜ length (now l) ≡ recordLength ⌝ }
+    ensures { λ s. ⌜ s ≡ stateOf (now (l .entry)) ⌝ }
+{
+    let hold = hold_at(l, 69);
+    let half = record_half::half_of(slots_at(l, 83));
+    let mut s = decode_with(l, hold, half);
+    let mut again = [0u8; 103];
+    record_write::encode(s, &mut again);
+    if is_same(&again, l) {
+        return s;
+    }
+    s.selected = 5;
+    s
+}
+
+// The state that a record stands for: bytes that no state is encoded by stand for a broken one, which every call refuses. With nothing
+// held or half read there are no such bytes.
+pub fn state_of(l: &[u8]) -> State
+    requires { ⌜ length (now l) ≡ recordLength ⌝ }
+    ensures { λ s. ⌜ s ≡ stateOf (now (l .entry)) ⌝ }
+{
+    if is_idle(l) {
+        return decode_with(l, Hold::Free, Half::Nothing);
+    }
+    busy_state_of(l)
+}

@@ -1,0 +1,99 @@
+-- The state as a record of 103 bytes, for C. docs/RECORD.md has the same as a table. Assumes nothing.
+use Prim.Native.Nat.{ℕ, _/_, _%_}
+use mathlib.Core.List.{List, [], _∷_, _++_}
+use lib.ListN.{getD, replicate}
+use Rattle.paper.specs.declared.Settings.{Settings}
+use Rattle.paper.specs.declared.Cursor.{Cursor}
+use Rattle.paper.specs.declared.Window.{Window}
+use Rattle.paper.specs.declared.Span.{Span}
+use Rattle.paper.specs.declared.Hold.{Hold}
+use Rattle.paper.specs.declared.Hold.the-variants.{Free, Held}
+use Rattle.paper.specs.declared.State.{State}
+use Rattle.paper.specs.Strokes.{noSpan}
+use Rattle.paper.specs.Settings.{windowAt}
+use Rattle.record_half.specs.declared.Slots.{Slots}
+use Rattle.record_half.specs.Slots.{halfSlots}
+
+abbrev pub recordLength : ℕ
+recordLength = 103
+
+-- a 16-bit number is two bytes, low byte first
+abbrev pub low : ℕ → ℕ
+low n = n % 256
+
+abbrev pub high : ℕ → ℕ
+high n = n / 256
+
+abbrev pub settingsBytes : Settings → List ℕ
+settingsBytes v =
+    v .charset
+    ∷ v .codes
+    ∷ v .shown
+    ∷ v .brightness
+    ∷ v .speed
+    ∷ v .width
+    ∷ v .write
+    ∷ v .style .reverse
+    ∷ v .style .mixing
+    ∷ v .style .across
+    ∷ v .style .down
+    ∷ []
+
+abbrev pub cursorBytes : Cursor → List ℕ
+cursorBytes k = low (k .x) ∷ high (k .x) ∷ low (k .y) ∷ high (k .y) ∷ k .mode ∷ []
+
+abbrev pub windowBytes : Window → List ℕ
+windowBytes w =
+    low (w .left)
+    ∷ high (w .left)
+    ∷ low (w .top)
+    ∷ high (w .top)
+    ∷ low (w .width)
+    ∷ high (w .width)
+    ∷ low (w .height)
+    ∷ high (w .height)
+    ∷ cursorBytes (w .cursor)
+
+unfoldable pub windowsBytes : List Window → List ℕ
+windowsBytes ws =
+    windowBytes (windowAt ws 1) ++ (windowBytes (windowAt ws 2) ++ (windowBytes (windowAt ws 3) ++ windowBytes (windowAt ws 4)))
+
+-- the base window's cursor, and which window is selected
+abbrev pub baseBytes : Cursor → ℕ → List ℕ
+baseBytes k selected = cursorBytes k ++ (selected ∷ [])
+
+-- while nothing is held all 14 bytes are 0
+unfoldable pub holdBytes : Hold → List ℕ
+holdBytes Free = replicate 14 0
+holdBytes (Held k back v) = 1 ∷ k ∷ back ∷ settingsBytes v
+
+abbrev pub slotBytes : Slots → List ℕ
+slotBytes t =
+    t .case
+    ∷ t .a
+    ∷ t .b
+    ∷ t .c
+    ∷ low (t .p)
+    ∷ high (t .p)
+    ∷ low (t .q)
+    ∷ high (t .q)
+    ∷ low (t .r)
+    ∷ high (t .r)
+    ∷ low (t .s)
+    ∷ high (t .s)
+    ∷ []
+
+abbrev pub spanBytes : Span → List ℕ
+spanBytes p = low (p .first) ∷ high (p .first) ∷ low (p .end) ∷ high (p .end) ∷ []
+
+abbrev pub spansBytes : List Span → List ℕ
+spansBytes ps = spanBytes (getD ps 0 noSpan) ++ spanBytes (getD ps 1 noSpan)
+
+-- what follows the windows
+unfoldable pub tailBytes : State → List ℕ
+tailBytes s =
+    baseBytes (s .base) (s .selected)
+    ++ (holdBytes (s .hold) ++ (slotBytes (halfSlots (s .half)) ++ spansBytes (s .spans)))
+
+unfoldable pub encoded : State → List ℕ
+encoded s = settingsBytes (s .settings) ++ (windowsBytes (s .windows) ++ tailBytes s)

@@ -1,0 +1,197 @@
+// The encoder: a state as a record of 103 bytes, for C. docs/RECORD.md has the layout.
+// It uses the paper, and slots for what is half read.
+ghost use mathlib.Core.Path.{_≡_};
+ghost use Prim.Native.Nat.{_+_, _≤_};
+ghost use lib.ListN.{length};
+ghost use Rattle.record_write.specs.Parts.{Put};
+ghost use Rattle.record_write.specs.Bytes.{recordLength, settingsBytes, windowBytes, windowsBytes, baseBytes, holdBytes, slotBytes, spansBytes, tailBytes, encoded};
+use paper::Cursor;
+use paper::Hold;
+use paper::Settings;
+use paper::Span;
+use paper::State;
+use paper::Window;
+use record_half::Slots;
+
+// The settings.
+fn settings_bytes(v: Settings) -> [u8; 11]
+    ensures { λ r. ⌜ r ≡ settingsBytes v ⌝ }
+{
+    let y = v.style;
+    [
+        v.charset,
+        v.codes,
+        v.shown,
+        v.brightness,
+        v.speed,
+        v.width,
+        v.write,
+        y.reverse,
+        y.mixing,
+        y.across,
+        y.down,
+    ]
+}
+
+// A user window.
+fn window_bytes(w: Window) -> [u8; 13]
+    ensures { λ r. ⌜ r ≡ windowBytes w ⌝ }
+{
+    let k = w.cursor;
+    [
+        (w.left % 256) as u8,
+        (w.left / 256) as u8,
+        (w.top % 256) as u8,
+        (w.top / 256) as u8,
+        (w.width % 256) as u8,
+        (w.width / 256) as u8,
+        (w.height % 256) as u8,
+        (w.height / 256) as u8,
+        (k.x % 256) as u8,
+        (k.x / 256) as u8,
+        (k.y % 256) as u8,
+        (k.y / 256) as u8,
+        k.mode,
+    ]
+}
+
+// The base window's cursor, and which window is selected.
+fn base_bytes(k: Cursor, selected: u8) -> [u8; 6]
+    ensures { λ r. ⌜ r ≡ baseBytes k selected ⌝ }
+{
+    [
+        (k.x % 256) as u8,
+        (k.x / 256) as u8,
+        (k.y % 256) as u8,
+        (k.y / 256) as u8,
+        k.mode,
+        selected,
+    ]
+}
+
+// What is held.
+fn hold_bytes(hold: Hold) -> [u8; 14]
+    ensures { λ r. ⌜ r ≡ holdBytes hold ⌝ }
+{
+    match hold {
+        Hold::Free => [0; 14],
+        Hold::Held {
+            window,
+            selected,
+            settings,
+        } => {
+            let y = settings.style;
+            [
+                1,
+                window,
+                selected,
+                settings.charset,
+                settings.codes,
+                settings.shown,
+                settings.brightness,
+                settings.speed,
+                settings.width,
+                settings.write,
+                y.reverse,
+                y.mixing,
+                y.across,
+                y.down,
+            ]
+        }
+    }
+}
+
+// What is half read, laid flat.
+fn slot_bytes(t: Slots) -> [u8; 12]
+    ensures { λ r. ⌜ r ≡ slotBytes t ⌝ }
+{
+    [
+        t.case,
+        t.a,
+        t.b,
+        t.c,
+        (t.p % 256) as u8,
+        (t.p / 256) as u8,
+        (t.q % 256) as u8,
+        (t.q / 256) as u8,
+        (t.r % 256) as u8,
+        (t.r / 256) as u8,
+        (t.s % 256) as u8,
+        (t.s / 256) as u8,
+    ]
+}
+
+// The spans of the two rows.
+fn spans_bytes(ps: [Span; 2]) -> [u8; 8]
+    ensures { λ r. ⌜ r ≡ spansBytes ps ⌝ }
+{
+    let p = ps[0];
+    let q = ps[1];
+    [
+        (p.first % 256) as u8,
+        (p.first / 256) as u8,
+        (p.end % 256) as u8,
+        (p.end / 256) as u8,
+        (q.first % 256) as u8,
+        (q.first / 256) as u8,
+        (q.end % 256) as u8,
+        (q.end / 256) as u8,
+    ]
+}
+
+// Copies a part into the record.
+fn put(src: &[u8], to: &mut [u8], at: usize)
+    requires { ⌜ at + length (now src) ≤ length (now to) ⌝ }
+    ensures { λ r. ⌜ Put at (now (to .entry)) (now (to .exit)) (now (src .entry)) ⌝ }
+{
+    for j in 0..src.len() {
+        to[at + j] = src[j];
+    }
+}
+
+// Puts the four user windows, after the settings.
+fn put_windows(ws: [Window; 4], to: &mut [u8])
+    requires { ⌜ length (now to) ≡ recordLength ⌝ }
+    ensures { λ r. ⌜ Put 11 (now (to .entry)) (now (to .exit)) (windowsBytes ws) ⌝ }
+{
+    let a = window_bytes(ws[0]);
+    put(&a, to, 11);
+    let b = window_bytes(ws[1]);
+    put(&b, to, 24);
+    let c = window_bytes(ws[2]);
+    put(&c, to, 37);
+    let d = window_bytes(ws[3]);
+    put(&d, to, 50);
+}
+
+// Puts what follows the windows.
+fn put_tail(s: State, to: &mut [u8])
+    requires { ⌜ length (now to) ≡ recordLength ⌝ }
+    ensures { λ r. ⌜ Put 63 (now (to .entry)) (now (to .exit)) (tailBytes s) ⌝ }
+{
+    let base = s.base;
+    let hold = s.hold;
+    let half = s.half;
+    let spans = s.spans;
+    let a = base_bytes(base, s.selected);
+    put(&a, to, 63);
+    let b = hold_bytes(hold);
+    put(&b, to, 69);
+    let c = slot_bytes(record_half::half_slots(half));
+    put(&c, to, 83);
+    let d = spans_bytes(spans);
+    put(&d, to, 95);
+}
+
+// Writes a state as a record.
+pub fn encode(s: State, to: &mut [u8])
+    requires { ⌜ length (now to) ≡ recordLength ⌝ }
+    ensures { λ r. ⌜ now (to .exit) ≡ encoded s ⌝ }
+{
+    let settings = s.settings;
+    let windows = s.windows;
+    let a = settings_bytes(settings);
+    put(&a, to, 0);
+    put_windows(windows, to);
+    put_tail(s, to);
+}

@@ -1,0 +1,17 @@
+-- `state::initial_state` meets its contract: its parts are the paper's, and two rows have two spans. Assumes nothing.
+use Rattle.paper.specs.Settings.{initialState}
+use Rattle.state.proofs.initial_state.Statement.{statement}
+use Rattle.state.proofs.initial_state.Tie as tie
+
+returns : tie.Need-returns
+unfolding initialState
+returns c =
+    rw (
+      c .before .before .before .pre,
+      c .before .before .no-window .ensures,
+      c .before .initial-settings .ensures,
+      c .top-left .ensures,
+    )
+
+pub initial-state-spec : {M : Type 1} → statement M
+initial-state-spec = tie.close (tie.spec (λ c κs. tt) (λ c κs. tt) (λ c κs. tt) returns)

@@ -1,0 +1,33 @@
+-- Three calls, one after the other, show what the definitions of the three show. Assumes nothing.
+use mathlib.Core.Path.{_≡_, ap, _∙_}
+use mathlib.Core.Bool.{Bool}
+use mathlib.Core.List.{List}
+use Prim.Native.Nat.{ℕ}
+use Rattle.paper.specs.declared.Answer.{Answer}
+use Rattle.paper.specs.declared.Fed.{Fed}
+use Rattle.paper.specs.declared.Refreshed.{Refreshed}
+use Rattle.paper.specs.Panel.{panel}
+use Rattle.paper.specs.Calls.{Starting, Feeding, Refreshing, startCall, feedCall, refreshCall}
+use Rattle.panel.specs.Told.{started, fed, refreshed}
+use Rattle.view_show.specs.declared.Counts.{Counts}
+use Rattle.view_show.specs.Shown.{Shows, fedFresh, shownFresh}
+
+-- the counts of a feed and a refresh
+abbrev counts : Fed → Refreshed → Bool → Counts
+counts f r half = record { carried = f .carried; answered = f .answered; moved = r .moved; half = half }
+
+pub plays : (font m stream glass : List ℕ) {m₁ m₂ glass′ : List ℕ} {a : Answer} {f : Fed} {r : Refreshed} (half : Bool) → started a m₁ ≡ startCall panel m → fed f m₂ ≡ feedCall panel font (a .state) m₁ stream → refreshed r glass′ ≡ refreshCall panel (f .state) m₂ glass → Shows (fedFresh panel font m stream) (shownFresh panel font m stream glass) (counts f r half) glass′
+unfolding fedFresh shownFresh
+plays font m stream glass {m₂ = m₂} {glass′ = glass′} {f = f} {r = r} half begun taken brought =
+    let fed-is : fed f m₂ ≡ fedFresh panel font m stream =
+    taken ∙ ap (λ (x : Starting). feedCall panel font (x .answer .state) (x .mem) stream) begun
+    in
+    let shown-is : refreshed r glass′ ≡ shownFresh panel font m stream glass =
+    brought ∙ ap (λ (x : Feeding). refreshCall panel (x .answer .state) (x .mem) glass) fed-is
+    in
+    record {
+      carried = ap (λ (x : Feeding). x .answer .carried) fed-is;
+      answered = ap (λ (x : Feeding). x .answer .answered) fed-is;
+      moved = ap (λ (x : Refreshing). x .answer .moved) shown-is;
+      same = ap (λ (x : Refreshing). x .glass) shown-is;
+    }

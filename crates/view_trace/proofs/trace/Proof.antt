@@ -1,0 +1,38 @@
+-- `view_trace::trace` is safe and ends. The measure is how many bytes are left.
+use borrow.Author.Needs.{needs}
+use Prim.Native.Nat.{_≤_, _-_}
+use lib.ListN.{length}
+use mathlib.Core.Path.{_≡_}
+use Rattle.view_trace.proofs.trace.Statement.{statement}
+use Rattle.view_trace.proofs.trace.Tie as tie
+
+abbrev Inv-loop : tie.InvT-loop
+Inv-loop font stream mem₀ state₀ from₀ i₀ mem state from i = (length mem ≡ length mem₀) × (i ≤ length stream)
+
+abbrev μ-loop : tie.MeasureT-loop
+μ-loop font stream mem₀ state₀ from₀ i₀ mem state from i = length stream - i
+
+pub trace-spec : {M : Type 1} → statement M
+trace-spec =
+    tie.close
+    (tie.spec
+    Inv-loop
+    μ-loop
+    (λ c κs. search needs)
+    (λ c. search needs)
+    (λ c. search needs)
+    (λ c. search needs)
+    (λ c. search needs)
+    (λ c. search needs)
+    (λ c κs. search needs)
+    (λ c κs. search needs)
+    (λ c. search needs)
+    (λ c. search needs)
+    (λ c. search needs)
+    (λ c. search needs)
+    (λ c. search needs)
+    (λ c κs. search needs)
+    (λ c. search needs)
+    (λ c. search needs)
+    (λ c. search needs)
+    (λ c. search needs))
