@@ -23,7 +23,7 @@ pub fn in_domain(key: Key, n: u8) -> bool
     match key {
         Key::Charset => n <= 13,
         Key::Codes => (n <= 5) | ((16 <= n) & (n <= 19)),
-        Key::Shown => n <= 1,
+        Key::Caret => n <= 1,
         Key::Brightness => (1 <= n) & (n <= 8),
         Key::Reverse => n <= 1,
         Key::Speed => n <= 31,
@@ -47,7 +47,7 @@ fn settings_ok(v: Settings) -> bool
     let y = v.style;
     in_domain(Key::Charset, v.charset)
         & in_domain(Key::Codes, v.codes)
-        & in_domain(Key::Shown, v.shown)
+        & in_domain(Key::Caret, v.caret)
         & in_domain(Key::Brightness, v.brightness)
         & in_domain(Key::Speed, v.speed)
         & in_domain(Key::Width, v.width)
@@ -192,14 +192,14 @@ fn half_ok(g: Geometry, half: Half) -> bool
         Half::Unit => true,
         Half::Group => true,
         Half::Actions => true,
-        Half::Pictures => true,
+        Half::Images => true,
         Half::Characters => true,
         Half::Windows => true,
         Half::Value(_) => true,
         Half::Rest { left } => (1 <= left) & (left <= 5),
-        Half::DefineA => true,
-        Half::DefineFrom => true,
-        Half::DefineTo { from } => 0x20 <= from,
+        Half::DownloadA => true,
+        Half::DownloadFrom => true,
+        Half::DownloadTo { from } => 0x20 <= from,
         Half::GlyphWidth { code, last } => (0x20 <= code) & (code <= last),
         Half::GlyphByte { code, last, left } => {
             (0x20 <= code) & ((code <= last) & ((1 <= left) & (left <= 7)))

@@ -63,15 +63,15 @@ pub fn take(g: Geometry, mem: &mut [u8], font: &[u8], s: State, r: Reading) -> D
             };
             carry_out(g, mem, font, t, c)
         }
-        Reading::Picture {
+        Reading::ImageByte {
             column,
             row,
             byte,
             next,
         } => {
-            let p = carry_dots::pen_of(g, s);
+            let p = carry_dots::spot_of(g, s);
             let v = s.settings;
-            let spans = carry_dots::picture(g, mem, p, v.style, column, row, byte);
+            let spans = carry_dots::image_byte(g, mem, p, v.style, column, row, byte);
             carry_state::ends(
                 State {
                     half: next,
@@ -81,10 +81,10 @@ pub fn take(g: Geometry, mem: &mut [u8], font: &[u8], s: State, r: Reading) -> D
                 Outcome::Unfinished,
             )
         }
-        Reading::PictureEnd { column, row, byte } => {
-            let p = carry_dots::pen_of(g, s);
+        Reading::ImageEnd { column, row, byte } => {
+            let p = carry_dots::spot_of(g, s);
             let v = s.settings;
-            let spans = carry_dots::picture(g, mem, p, v.style, column, row, byte);
+            let spans = carry_dots::image_byte(g, mem, p, v.style, column, row, byte);
             carry_state::ends(
                 State {
                     half: Half::Nothing,

@@ -33,9 +33,9 @@ use Rattle.laws_state.proofs.Views.{view-place}
 use Rattle.laws_memory.specs.Rectangles.{cleared}
 use Rattle.laws_memory.specs.Spans.{markRect}
 use Rattle.laws_memory.proofs.Spans.{marked-rect}
-use Rattle.moves.specs.declared.Pen.{Pen}
+use Rattle.moves.specs.declared.Spot.{Spot}
 use Rattle.moves.specs.Does as pens
-use Rattle.carry_dots.specs.Does.{Ready, Does, Pictured}
+use Rattle.carry_dots.specs.Does.{Ready, Does, ImageStored}
 
 -- a cursor set leaves the spans
 pub cursor-spans : (s : State) (k : Cursor) → atCursor s k .spans ≡ s .spans
@@ -65,7 +65,7 @@ module _ {g : Geometry} {m : List ℕ} where
       }
 
   -- a command that moves the current window's cursor and writes what the move writes
-  pub does-move : {r : Done} {e : Meaning} {q : Pen} {m′ : List ℕ} (s : State) (t : Moved) → pens.Does g (s .spans) m q m′ t
+  pub does-move : {r : Done} {e : Meaning} {q : Spot} {m′ : List ℕ} (s : State) (t : Moved) → pens.Does g (s .spans) m q m′ t
       → r ≡ done (withSpans (withView s (q .view)) (q .spans)) Carried → e ≡ moves s t → Does g m r m′ e
   does-move s t d f h =
       record {
@@ -79,11 +79,11 @@ module _ {g : Geometry} {m : List ℕ} where
       }
 
 -- whether the cell exceeds the range, by what the two calls gave
-pub tested : (s : State) (g : Geometry) (p : Pen) (w : ℕ) (y : Style) (t u : Bool) → p ≡ pens.pen (viewOf g s) (s .spans)
+pub tested : (s : State) (g : Geometry) (p : Spot) (w : ℕ) (y : Style) (t u : Bool) → p ≡ pens.spot (viewOf g s) (s .spans)
     → t ≡ tooLarge (p .view) (cellWidth w y) (cellHeight y) → t ≡ u → tooLarge (viewOf g s) (cellWidth w y) (cellHeight y) ≡ u
-tested s g p w y t u e f h = sym (ap (λ (q : Pen). tooLarge (q .view) (cellWidth w y) (cellHeight y)) e) ∙ sym f ∙ h
+tested s g p w y t u e f h = sym (ap (λ (q : Spot). tooLarge (q .view) (cellWidth w y) (cellHeight y)) e) ∙ sym f ∙ h
 
--- what `settle` asks of a pen after a move that keeps its range
+-- what `settle` asks of a spot after a move that keeps its range
 pub settles : (g : Geometry) (s : State) (m : List ℕ) (t : Moved) (v : View) → Ready g s m → Kept (viewOf g s) t → v ≡ t .view
     → (s .selected ≤ 4) × (v .left + v .x < 65536) × (v .top + v .y < 65536)
 settles g s m t v r k e =
@@ -102,7 +102,7 @@ ready-half g s m p h r =
 
 -- an image byte, and what is half read after it
 pub does-picture : {g : Geometry} {m m′ : List ℕ} {r : Done} {ps : List Span} (s : State) (p : Half) (o : Outcome) (column row b : ℕ)
-    → Pictured g (pens.pen (viewOf g s) (s .spans)) (s .settings .style) column row b m ps m′
+    → ImageStored g (pens.spot (viewOf g s) (s .spans)) (s .settings .style) column row b m ps m′
     → r ≡ done (withHalf (withSpans s ps) p) o
     → Does g m r m′ (means (withHalf s p) o (imageStrokes (viewOf g s) (s .settings .style) column row b))
 does-picture s p o column row b d f =
@@ -128,20 +128,20 @@ does-erase {g} {m} s c k i f h =
       mem = c ∙ sym (ap (λ (x : Meaning). applyAll g m (x .strokes)) h);
     }
 
-module _ (g : Geometry) (p : Pen) (y : Style) (column row b : ℕ) (m : List ℕ) where
+module _ (g : Geometry) (p : Spot) (y : Style) (column row b : ℕ) (m : List ℕ) where
   -- an image byte inside the range is stored
-  pub pictured-in : {m′ : List ℕ} {ps : List Span} → (ltb (p .view .x + column) (p .view .width) && ltb (p .view .y + row) (p .view .height)) ≡ true
+  pub image-stored-in : {m′ : List ℕ} {ps : List Span} → (ltb (p .view .x + column) (p .view .width) && ltb (p .view .y + row) (p .view .height)) ≡ true
       → m′ ≡ imaged g y (p .view .left + (p .view .x + column)) (p .view .top + (p .view .y + row)) b m
       → ps ≡ markRect (p .view .left + (p .view .x + column)) (p .view .top + (p .view .y + row)) 1 1 (p .spans)
-      → Pictured g p y column row b m ps m′
+      → ImageStored g p y column row b m ps m′
   unfolding imageStrokes imaged
-  pictured-in t e k =
+  image-stored-in t e k =
       record {
         spans = rw t (k ∙ sym (marked-rect (p .spans) (imageStroke y column row b (p .view))));
         mem = rw t e;
       }
 
   -- one outside is consumed
-  pub pictured-out : (ltb (p .view .x + column) (p .view .width) && ltb (p .view .y + row) (p .view .height)) ≡ false → Pictured g p y column row b m (p .spans) m
+  pub image-stored-out : (ltb (p .view .x + column) (p .view .width) && ltb (p .view .y + row) (p .view .height)) ≡ false → ImageStored g p y column row b m (p .spans) m
   unfolding imageStrokes
-  pictured-out t = record { spans = rw t; mem = rw t }
+  image-stored-out t = record { spans = rw t; mem = rw t }

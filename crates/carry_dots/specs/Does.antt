@@ -13,7 +13,7 @@ use Rattle.paper.specs.Carry.{Meaning, imageStrokes}
 use Rattle.paper.specs.Calls.{settled}
 use Rattle.laws_memory.specs.Rectangles.{Fits}
 use Rattle.laws_state.specs.Room.{Usable}
-use Rattle.moves.specs.declared.Pen.{Pen}
+use Rattle.moves.specs.declared.Spot.{Spot}
 use Rattle.carry_state.specs.declared.Done.{Done}
 
 -- an accepted state and its memory, on a panel that code can count and whose rows are the state's spans
@@ -29,7 +29,7 @@ pub record Does (g : Geometry) (m : List ℕ) (r : Done) (m′ : List ℕ) (t : 
   pub outcome : r .outcome ≡ t .outcome
   pub mem : m′ ≡ applyAll g m (t .strokes)
 
--- one image byte in a pen's range: its strokes grow the spans and move the memory
-pub record Pictured (g : Geometry) (p : Pen) (y : Style) (column row b : ℕ) (m : List ℕ) (r : List Span) (m′ : List ℕ) : Type 0 where
+-- one image byte in a spot's range: its strokes grow the spans and move the memory
+pub record ImageStored (g : Geometry) (p : Spot) (y : Style) (column row b : ℕ) (m : List ℕ) (r : List Span) (m′ : List ℕ) : Type 0 where
   pub spans : r ≡ markAll (p .spans) (imageStrokes (p .view) y column row b)
   pub mem : m′ ≡ applyAll g m (imageStrokes (p .view) y column row b)

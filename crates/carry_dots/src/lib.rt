@@ -2,7 +2,7 @@
 // It may use commands for the answer's form, windows for the state, and runs, moves, cells and dots for what is written.
 // Each contract says that what was done is what the paper's meaning says.
 use carry_state::Done;
-use moves::Pen;
+use moves::Spot;
 use paper::Command;
 use paper::Geometry;
 use paper::Outcome;
@@ -16,25 +16,25 @@ ghost use lib.ListN.{length};
 ghost use Rattle.paper.specs.Panel.{fontLength};
 ghost use Rattle.paper.specs.Settings.{withView, withSpans, viewOf};
 ghost use Rattle.paper.specs.Carry.{isHeld, commandOf};
-ghost use Rattle.moves.specs.Does.{pen};
+ghost use Rattle.moves.specs.Does.{spot};
 ghost use Rattle.laws_memory.specs.Rectangles.{Fits};
 ghost use Rattle.laws_state.specs.Room.{Usable, InMemory};
-ghost use Rattle.carry_dots.specs.Does.{Ready, Does, Pictured};
+ghost use Rattle.carry_dots.specs.Does.{Ready, Does, ImageStored};
 
 // ---- moves of the current window that write
 
 // The current window's range and cursor, and the spans.
-pub fn pen_of(g: Geometry, s: State) -> Pen
+pub fn spot_of(g: Geometry, s: State) -> Spot
     requires { ⌜ (s .selected ≤ 4) × (g .visible ≤ g .columns) ⌝ }
-    ensures { λ r. ⌜ r ≡ pen (viewOf g s) (s .spans) ⌝ }
+    ensures { λ r. ⌜ r ≡ spot (viewOf g s) (s .spans) ⌝ }
 {
     let view = state::view_of(g, s);
     let spans = s.spans;
-    Pen { view, spans }
+    Spot { view, spans }
 }
 
-// The state after a move: the current window's cursor and the spans where the pen has them.
-pub fn settle(s: State, p: Pen) -> State
+// The state after a move: the current window's cursor and the spans where the spot has them.
+pub fn settle(s: State, p: Spot) -> State
     requires { ⌜ (s .selected ≤ 4) × (p .view .left + p .view .x < 65536) × (p .view .top + p .view .y < 65536) ⌝ }
     ensures { λ r. ⌜ r ≡ withSpans (withView s (p .view)) (p .spans) ⌝ }
 {
@@ -48,7 +48,7 @@ pub fn character(g: Geometry, mem: &mut [u8], font: &[u8], s: State, code: u8) -
     requires { ⌜ Ready g s (now mem) × ((length (now font) ≡ fontLength) × (0x20 ≤ code)) ⌝ }
     ensures { λ r. ⌜ Does g (now (mem .entry)) r (now (mem .exit)) (commandOf g (now (font .entry)) s (Command.Character code)) ⌝ }
 {
-    let p = pen_of(g, s);
+    let p = spot_of(g, s);
     let v = s.settings;
     let style = v.style;
     let w = v.width;
@@ -57,7 +57,7 @@ pub fn character(g: Geometry, mem: &mut [u8], font: &[u8], s: State, code: u8) -
     }
     let alone = [code];
     let r = runs::run(g, mem, font, p, w, style, &alone, 0);
-    let q = r.pen;
+    let q = r.spot;
     carry_state::ends(settle(s, q), Outcome::Carried)
 }
 
@@ -66,7 +66,7 @@ pub fn tab(g: Geometry, mem: &mut [u8], s: State) -> Done
     requires { ⌜ Ready g s (now mem) ⌝ }
     ensures { λ r. ⌜ ((font : List ℕ) → Does g (now (mem .entry)) r (now (mem .exit)) (commandOf g font s Command.Tab)) ⌝ }
 {
-    let p = pen_of(g, s);
+    let p = spot_of(g, s);
     let v = s.settings;
     let style = v.style;
     let w = v.width;
@@ -83,7 +83,7 @@ pub fn line_feed(g: Geometry, mem: &mut [u8], s: State) -> Done
     requires { ⌜ Ready g s (now mem) ⌝ }
     ensures { λ r. ⌜ ((font : List ℕ) → Does g (now (mem .entry)) r (now (mem .exit)) (commandOf g font s Command.LineFeed)) ⌝ }
 {
-    let p = pen_of(g, s);
+    let p = spot_of(g, s);
     let v = s.settings;
     let style = v.style;
     let w = v.width;
@@ -99,7 +99,7 @@ pub fn clear(g: Geometry, mem: &mut [u8], s: State) -> Done
     requires { ⌜ Ready g s (now mem) ⌝ }
     ensures { λ r. ⌜ ((font : List ℕ) → Does g (now (mem .entry)) r (now (mem .exit)) (commandOf g font s Command.Clear)) ⌝ }
 {
-    let p = pen_of(g, s);
+    let p = spot_of(g, s);
     let q = moves::clear(g, mem, p);
     carry_state::ends(settle(s, q), Outcome::Carried)
 }
@@ -121,19 +121,19 @@ pub fn initialise(g: Geometry, mem: &mut [u8], s: State, held: bool) -> Done
 
 // ---- an image byte
 
-// One byte of an image, so far from the pen's cursor; outside the range it is consumed. The cursor stays. It knows no state, so
+// One byte of an image, so far from the spot's cursor; outside the range it is consumed. The cursor stays. It knows no state, so
 // that the compiler need not lay one down for each byte.
-pub fn picture(
+pub fn image_byte(
     g: Geometry,
     mem: &mut [u8],
-    p: Pen,
+    p: Spot,
     style: Style,
     column: u16,
     row: u16,
     byte: u8,
 ) -> [Span; 2]
     requires { ⌜ Usable g × (InMemory g (p .view) × Fits g (now mem)) ⌝ }
-    ensures { λ r. ⌜ Pictured g p style column row byte (now (mem .entry)) r (now (mem .exit)) ⌝ }
+    ensures { λ r. ⌜ ImageStored g p style column row byte (now (mem .entry)) r (now (mem .exit)) ⌝ }
 {
     let v = p.view;
     let before = p.spans;

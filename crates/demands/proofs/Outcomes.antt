@@ -12,7 +12,7 @@ use Rattle.paper.specs.declared.Half.the-variants.{Nothing}
 use Rattle.paper.specs.declared.Command.{Command}
 use Rattle.paper.specs.declared.Command.the-variants.{Character, Back, Tab, LineFeed, Home, Clear, Return, Select, Initialise, Mode, Set, Enlarge, CursorSet, Define, Cancel, Uncarried}
 use Rattle.paper.specs.declared.Reading.{Reading}
-use Rattle.paper.specs.declared.Reading.the-variants.{More, Whole, Picture, PictureEnd, Cancels, UnknownCode}
+use Rattle.paper.specs.declared.Reading.the-variants.{More, Whole, ImageByte, ImageEnd, Cancels, UnknownCode}
 use Rattle.paper.specs.declared.Outcome.{Outcome}
 use Rattle.paper.specs.declared.Outcome.the-variants.{Unfinished, Carried, OutOfDomain, Cancelled, Unknown, NotCarried, WindowHeld, TooLarge, NotDefined}
 use Rattle.paper.specs.declared.State.{State}
@@ -183,8 +183,8 @@ module _ (g : Geometry) (font : List ℕ) (s : State) (c : Command) where
 abbrev kind : Reading → ℕ
 kind (More p) = 0
 kind (Whole c) = 1
-kind (Picture column row b next) = 2
-kind (PictureEnd column row b) = 3
+kind (ImageByte column row b next) = 2
+kind (ImageEnd column row b) = 3
 kind Cancels = 4
 kind UnknownCode = 5
 
@@ -192,8 +192,8 @@ kind UnknownCode = 5
 abbrev commandIn : Reading → Command
 commandIn (More p) = Uncarried
 commandIn (Whole c) = c
-commandIn (Picture column row b next) = Uncarried
-commandIn (PictureEnd column row b) = Uncarried
+commandIn (ImageByte column row b next) = Uncarried
+commandIn (ImageEnd column row b) = Uncarried
 commandIn Cancels = Uncarried
 commandIn UnknownCode = Uncarried
 
@@ -260,13 +260,13 @@ reading-answers g font s (Whole c) =
       number-17 = a-command c (λ q. After11 g s₀ q (notDefined s₀ q ≡ true)) (a .number-17);
       unchanged = a .unchanged;
     }
-reading-answers g font s (Picture column row b next) =
-    let r = Picture column row b next in
+reading-answers g font s (ImageByte column row b next) =
+    let r = ImageByte column row b next in
     plain-answers g _ r _ (omega arith) (omega arith) (λ _. refl, λ _. refl) (neither (omega arith) false≢true)
     (neither (omega arith) (unlike r Cancels (omega arith))) (neither (omega arith) (unlike r UnknownCode (omega arith)))
     (λ l. absurd (omega arith))
-reading-answers g font s (PictureEnd column row b) =
-    let r = PictureEnd column row b in
+reading-answers g font s (ImageEnd column row b) =
+    let r = ImageEnd column row b in
     plain-answers g _ r _ (omega arith) (omega arith) (neither (omega arith) true≢false) (λ _. refl, λ _. refl)
     (neither (omega arith) (unlike r Cancels (omega arith))) (neither (omega arith) (unlike r UnknownCode (omega arith)))
     (λ l. absurd (omega arith))

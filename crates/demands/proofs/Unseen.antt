@@ -12,7 +12,7 @@ use Rattle.paper.specs.declared.Half.the-variants.{Nothing}
 use Rattle.paper.specs.declared.Command.{Command}
 use Rattle.paper.specs.declared.Command.the-variants.{Character, Back, Tab, LineFeed, Home, Clear, Return, Select, Initialise, Mode, Set, Enlarge, CursorSet, Define, Cancel, Uncarried}
 use Rattle.paper.specs.declared.Reading.{Reading}
-use Rattle.paper.specs.declared.Reading.the-variants.{More, Whole, Picture, PictureEnd, Cancels, UnknownCode}
+use Rattle.paper.specs.declared.Reading.the-variants.{More, Whole, ImageByte, ImageEnd, Cancels, UnknownCode}
 use Rattle.paper.specs.declared.Outcome.{Outcome}
 use Rattle.paper.specs.declared.Outcome.the-variants.{Carried, OutOfDomain, NotCarried, WindowHeld, TooLarge, NotDefined}
 use Rattle.paper.specs.declared.State.{State}
@@ -125,8 +125,8 @@ module _ (g : Geometry) (font : List ℕ) (ps : List Span) (s : State) where
   unfolding takeOf viewOf imageStrokes respan
   reading-same (More p) = refl
   reading-same (Whole c) = command-same ps (withHalf s Nothing) g font c
-  reading-same (Picture column row b next) = refl
-  reading-same (PictureEnd column row b) = refl
+  reading-same (ImageByte column row b next) = refl
+  reading-same (ImageEnd column row b) = refl
   reading-same Cancels = refl
   reading-same UnknownCode = refl
 

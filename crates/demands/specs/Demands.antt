@@ -12,7 +12,7 @@ use Rattle.paper.specs.declared.Span.{Span}
 use Rattle.paper.specs.declared.Half.the-variants.{Nothing}
 use Rattle.paper.specs.declared.Command.{Command}
 use Rattle.paper.specs.declared.Reading.{Reading}
-use Rattle.paper.specs.declared.Reading.the-variants.{More, Whole, Picture, PictureEnd, Cancels, UnknownCode}
+use Rattle.paper.specs.declared.Reading.the-variants.{More, Whole, ImageByte, ImageEnd, Cancels, UnknownCode}
 use Rattle.paper.specs.declared.Refusal.{Refusal}
 use Rattle.paper.specs.declared.Refusal.the-variants.{Accepted}
 use Rattle.paper.specs.declared.State.{State}
@@ -169,16 +169,16 @@ pub record ByteFed (g : Geometry) (m : List ℕ) (t : Meaning) (f : Feeding) : T
 abbrev pub finishes : Reading → Bool
 finishes (More p) = false
 finishes (Whole c) = true
-finishes (Picture column row b next) = false
-finishes (PictureEnd column row b) = true
+finishes (ImageByte column row b next) = false
+finishes (ImageEnd column row b) = true
 finishes Cancels = true
 finishes UnknownCode = true
 
 abbrev pub endsImage : Reading → Bool
 endsImage (More p) = false
 endsImage (Whole c) = false
-endsImage (Picture column row b next) = false
-endsImage (PictureEnd column row b) = true
+endsImage (ImageByte column row b next) = false
+endsImage (ImageEnd column row b) = true
 endsImage Cancels = false
 endsImage UnknownCode = false
 

@@ -11,18 +11,18 @@ use lib.Dec.{leb}
 use borrow.Author.Tests.{lt-leb, lt-ltb, le-ltb}
 use Rattle.paper.specs.declared.Geometry.{Geometry}
 use Rattle.paper.specs.declared.Key.{Key}
-use Rattle.paper.specs.declared.Key.the-variants.{Charset, Codes, Shown, Brightness, Reverse, Speed, Mixing, Width, Write}
+use Rattle.paper.specs.declared.Key.the-variants.{Charset, Codes, Caret, Brightness, Reverse, Speed, Mixing, Width, Write}
 use Rattle.paper.specs.declared.Word.{Word}
 use Rattle.paper.specs.declared.Word.the-variants.{CursorX, CursorY, WindowLeft, WindowTop, WindowWidth, WindowHeight, ImageWidth, ImageHeight}
 use Rattle.paper.specs.declared.Half.{Half}
-use Rattle.paper.specs.declared.Half.the-variants.{Nothing, Escape, Unit, Group, Actions, Pictures, Characters, Windows, Value, Rest, DefineA, DefineFrom, DefineTo, GlyphWidth, GlyphByte, Low, High, ImageKind, ImageData, EnlargeX, EnlargeY, SelectA, WindowA, WindowB}
-use Rattle.paper.specs.declared.Reading.the-variants.{More, Picture}
-use Rattle.paper.specs.Reading.{between, readFirst, readEscape, readUnit, readGroup, readActions, readPictures, readCharacters, readWindows, readRest, readGlyphByte, readWindowB, word16, readWord, readImage, readOf}
+use Rattle.paper.specs.declared.Half.the-variants.{Nothing, Escape, Unit, Group, Actions, Images, Characters, Windows, Value, Rest, DownloadA, DownloadFrom, DownloadTo, GlyphWidth, GlyphByte, Low, High, ImageKind, ImageData, EnlargeX, EnlargeY, SelectA, WindowA, WindowB}
+use Rattle.paper.specs.declared.Reading.the-variants.{More, ImageByte}
+use Rattle.paper.specs.Reading.{between, readFirst, readEscape, readUnit, readGroup, readActions, readImages, readCharacters, readWindows, readRest, readGlyphByte, readWindowB, word16, readWord, readImage, readOf}
 use Rattle.paper.specs.Bounds.{wordOk, halfOk}
 use Rattle.laws_bytes.specs.Readings.{readingOk}
 use Rattle.laws_bytes.specs.Beginnings.{Begins, no-byte, one-more, one-stored, Beginning, WordFits, Fits}
 use Rattle.laws_bytes.proofs.Tests.{both-of, between-facts, between-true}
-use Rattle.laws_bytes.proofs.Readings.{image-facts, reads-ok, picture-facts}
+use Rattle.laws_bytes.proofs.Readings.{image-facts, reads-ok, image-byte-facts}
 
 module _ (g : Geometry) where
   -- what bytes lead to is accepted
@@ -31,7 +31,7 @@ module _ (g : Geometry) where
   begins-ok no-byte = refl
   begins-ok (one-more {p = p} b s l e) = rw e at (reads-ok g p b (begins-ok s))
   begins-ok (one-stored {p = p} {q = q} b column row s l e) =
-      picture-facts g column row b q (rw e at (reads-ok g p b (begins-ok s))) .2
+      image-byte-facts g column row b q (rw e at (reads-ok g p b (begins-ok s))) .2
 
   -- ---- bytes, one after the other
 
@@ -44,7 +44,7 @@ module _ (g : Geometry) where
   more b l e s = record { bytes = s .bytes ++ (b ∷ []); begins = one-more b (s .begins) l e }
 
   -- one byte of an image more
-  stored : {p q : Half} (column row : ℕ) → readOf g p 0 ≡ Picture column row 0 q → Beginning g p → Beginning g q
+  stored : {p q : Half} (column row : ℕ) → readOf g p 0 ≡ ImageByte column row 0 q → Beginning g p → Beginning g q
   stored column row e s = record { bytes = s .bytes ++ (0 ∷ []); begins = one-stored 0 column row (s .begins) (omega arith) e }
 
   -- ---- the openers
@@ -70,7 +70,7 @@ module _ (g : Geometry) where
   actions = more 0x61 (omega arith) refl group
 
   -- 1Fh 28h 66h
-  pictures : Beginning g Pictures
+  pictures : Beginning g Images
   unfolding readOf readGroup
   pictures = more 0x66 (omega arith) refl group
 
@@ -89,7 +89,7 @@ module _ (g : Geometry) where
   unfolding readOf readEscape readUnit readCharacters readWindows
   value Charset = more 0x52 (omega arith) refl escape
   value Codes = more 0x74 (omega arith) refl escape
-  value Shown = more 0x43 (omega arith) refl unit
+  value Caret = more 0x43 (omega arith) refl unit
   value Brightness = more 0x58 (omega arith) refl unit
   value Reverse = more 0x72 (omega arith) refl unit
   value Speed = more 0x73 (omega arith) refl unit
@@ -117,17 +117,17 @@ module _ (g : Geometry) where
       5 left (f .0) (f .1) (more 0x10 (omega arith) refl actions)
 
   -- the define's a
-  define-a : Beginning g DefineA
+  define-a : Beginning g DownloadA
   unfolding readOf readEscape
   define-a = more 0x26 (omega arith) refl escape
 
   -- its c1
-  define-from : Beginning g DefineFrom
+  define-from : Beginning g DownloadFrom
   unfolding readOf
   define-from = more 1 (omega arith) refl define-a
 
   -- its c2
-  define-to : (from : ℕ) → leb 0x20 from ≡ true → from < 256 → Beginning g (DefineTo from)
+  define-to : (from : ℕ) → leb 0x20 from ≡ true → from < 256 → Beginning g (DownloadTo from)
   unfolding readOf
   define-to from h l = more from l (rw h) define-from
 
@@ -196,7 +196,7 @@ module _ (g : Geometry) where
 
   -- an image's width
   image-width : Beginning g (Low ImageWidth)
-  unfolding readOf readPictures
+  unfolding readOf readImages
   image-width = more 0x11 (omega arith) refl pictures
 
   -- its height
@@ -235,7 +235,7 @@ module _ (g : Geometry) where
     down column (suc row) l s =
         stored column row
         (rw (lt-ltb (row + 1) height (omega arith))
-        (ap (λ (n : ℕ). Picture column row 0 (ImageData width height column n)) (add-one row)))
+        (ap (λ (n : ℕ). ImageByte column row 0 (ImageData width height column n)) (add-one row)))
         (down column row (omega arith) s)
 
     -- along an image's top row
@@ -246,7 +246,7 @@ module _ (g : Geometry) where
     along (suc column) l m s =
         stored column (height - 1)
         (rw (le-ltb (height - 1 + 1) height (omega arith), lt-ltb (column + 1) width (omega arith))
-        (ap (λ (n : ℕ). Picture column (height - 1) 0 (ImageData width height n 0)) (add-one column)))
+        (ap (λ (n : ℕ). ImageByte column (height - 1) 0 (ImageData width height n 0)) (add-one column)))
         (down column (height - 1) (omega arith) (along column (omega arith) m s))
 
     -- any place of an image
@@ -275,14 +275,14 @@ module _ (g : Geometry) where
   ok-begins Unit h f = unit
   ok-begins Group h f = group
   ok-begins Actions h f = actions
-  ok-begins Pictures h f = pictures
+  ok-begins Images h f = pictures
   ok-begins Characters h f = characters
   ok-begins Windows h f = windows
   ok-begins (Value key) h f = value key
   ok-begins (Rest left) h f = rest left h
-  ok-begins DefineA h f = define-a
-  ok-begins DefineFrom h f = define-from
-  ok-begins (DefineTo from) h f = define-to from h f
+  ok-begins DownloadA h f = define-a
+  ok-begins DownloadFrom h f = define-from
+  ok-begins (DownloadTo from) h f = define-to from h f
   ok-begins (GlyphWidth code last) h f =
       let c = both-of (leb 0x20 code) (leb code last) h in
       glyph-width code last (c .0) (c .1) (f .0) (f .1)

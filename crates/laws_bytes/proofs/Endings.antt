@@ -12,12 +12,12 @@ use Rattle.paper.specs.declared.Geometry.{Geometry}
 use Rattle.paper.specs.declared.Word.{Word}
 use Rattle.paper.specs.declared.Word.the-variants.{CursorX, CursorY, WindowLeft, WindowTop, WindowWidth, WindowHeight, ImageWidth, ImageHeight}
 use Rattle.paper.specs.declared.Half.{Half}
-use Rattle.paper.specs.declared.Half.the-variants.{Nothing, Escape, Unit, Group, Actions, Pictures, Characters, Windows, Value, Rest, DefineA, DefineFrom, DefineTo, GlyphWidth, GlyphByte, Low, High, ImageKind, ImageData, EnlargeX, EnlargeY, SelectA, WindowA, WindowB}
+use Rattle.paper.specs.declared.Half.the-variants.{Nothing, Escape, Unit, Group, Actions, Images, Characters, Windows, Value, Rest, DownloadA, DownloadFrom, DownloadTo, GlyphWidth, GlyphByte, Low, High, ImageKind, ImageData, EnlargeX, EnlargeY, SelectA, WindowA, WindowB}
 use Rattle.paper.specs.declared.Command.{Command}
 use Rattle.paper.specs.declared.Command.the-variants.{Character, Select, Initialise, Mode, Set, Enlarge, CursorSet, Define, Cancel, Uncarried}
 use Rattle.paper.specs.declared.Key.the-variants.{Width}
-use Rattle.paper.specs.declared.Reading.the-variants.{More, Whole, Picture, PictureEnd}
-use Rattle.paper.specs.Reading.{between, readFirst, readEscape, readUnit, readGroup, readActions, readPictures, readCharacters, readWindows, readRest, readGlyphByte, readWindowB, word16, readWord, readImage, readOf}
+use Rattle.paper.specs.declared.Reading.the-variants.{More, Whole, ImageByte, ImageEnd}
+use Rattle.paper.specs.Reading.{between, readFirst, readEscape, readUnit, readGroup, readActions, readImages, readCharacters, readWindows, readRest, readGlyphByte, readWindowB, word16, readWord, readImage, readOf}
 use Rattle.paper.specs.Bounds.{wordOk, halfOk}
 use Rattle.laws_bytes.specs.Beginnings.{made-whole, last-stored, then-more, then-stored, Finished, BadSize, bad-width, bad-height, Fits}
 use Rattle.laws_bytes.proofs.Tests.{both-of, between-facts, between-true}
@@ -58,11 +58,11 @@ module _ (g : Geometry) where
   before b l e s = record { bytes = b ∷ s .bytes; finishes = then-more b l e (s .finishes) }
 
   -- an image's last byte
-  ends-stored : {p : Half} (column row : ℕ) → readOf g p 0 ≡ PictureEnd column row 0 → Finished g p
+  ends-stored : {p : Half} (column row : ℕ) → readOf g p 0 ≡ ImageEnd column row 0 → Finished g p
   ends-stored column row e = record { bytes = 0 ∷ []; finishes = last-stored 0 column row (omega arith) e }
 
   -- one byte of an image before
-  before-stored : {p q : Half} (column row : ℕ) → readOf g p 0 ≡ Picture column row 0 q → Finished g q → Finished g p
+  before-stored : {p q : Half} (column row : ℕ) → readOf g p 0 ≡ ImageByte column row 0 q → Finished g q → Finished g p
   before-stored column row e s =
       record { bytes = 0 ∷ s .bytes; finishes = then-stored 0 column row (omega arith) e (s .finishes) }
 
@@ -223,21 +223,21 @@ module _ (g : Geometry) where
 
     -- some bytes lead from every accepted half-read command to a whole one, but from a bad size, which the next byte cancels
     pub ok-finishes : (p : Half) → halfOk g p ≡ true → Fits p → Finished g p ⊎ BadSize g p
-    unfolding halfOk readOf readFirst readEscape readUnit readGroup readActions readPictures readCharacters readWindows readWindowB
+    unfolding halfOk readOf readFirst readEscape readUnit readGroup readActions readImages readCharacters readWindows readWindowB
     ok-finishes Nothing h f = inl (ends 0x20 (Character 0x20) (omega arith) refl)
     ok-finishes Escape h f = inl (ends 0x40 Initialise (omega arith) refl)
     ok-finishes Unit h f = inl (ends 0x01 (Mode 1) (omega arith) refl)
     ok-finishes Group h f = inl (before 0x61 (omega arith) refl (before 0x01 (omega arith) refl (rest 1)))
     ok-finishes Actions h f = inl (before 0x01 (omega arith) refl (rest 1))
-    ok-finishes Pictures h f = inl (before 0x11 (omega arith) refl image-width)
+    ok-finishes Images h f = inl (before 0x11 (omega arith) refl image-width)
     ok-finishes Characters h f = inl (before 0x03 (omega arith) refl (ends 0 (Set Width 0) (omega arith) refl))
     ok-finishes Windows h f = inl (before 0x01 (omega arith) refl (ends 0 (Select 0) (omega arith) refl))
     ok-finishes (Value key) h f = inl (ends 0 (Set key 0) (omega arith) refl)
     ok-finishes (Rest left) h f = inl (rest left)
-    ok-finishes DefineA h f =
+    ok-finishes DownloadA h f =
         inl (before 1 (omega arith) refl (before 0x20 (omega arith) refl (before 0x20 (omega arith) refl (glyphs 0 0x20 0x20 (omega arith)))))
-    ok-finishes DefineFrom h f = inl (before 0x20 (omega arith) refl (before 0x20 (omega arith) refl (glyphs 0 0x20 0x20 (omega arith))))
-    ok-finishes (DefineTo from) h f = inl (before from f (rw (le-leb from from (omega arith))) (glyphs 0 from from (omega arith)))
+    ok-finishes DownloadFrom h f = inl (before 0x20 (omega arith) refl (before 0x20 (omega arith) refl (glyphs 0 0x20 0x20 (omega arith))))
+    ok-finishes (DownloadTo from) h f = inl (before from f (rw (le-leb from from (omega arith))) (glyphs 0 from from (omega arith)))
     ok-finishes (GlyphWidth code last) h f = inl (glyphs last code last (omega arith))
     ok-finishes (GlyphByte code last left) h f = inl (glyph code last left (λ _. glyphs last (code + 1) last (omega arith)))
     ok-finishes (Low w) h f = inl (low w h)

@@ -9,10 +9,10 @@ use Rattle.paper.specs.declared.Geometry.{Geometry}
 use Rattle.paper.specs.declared.Word.{Word}
 use Rattle.paper.specs.declared.Word.the-variants.{CursorX, CursorY, WindowLeft, WindowTop, WindowWidth, WindowHeight, ImageWidth, ImageHeight}
 use Rattle.paper.specs.declared.Half.{Half}
-use Rattle.paper.specs.declared.Half.the-variants.{Nothing, Escape, Unit, Group, Actions, Pictures, Characters, Windows, Value, Rest, DefineA, DefineFrom, DefineTo, GlyphWidth, GlyphByte, Low, High, ImageKind, ImageData, EnlargeX, EnlargeY, SelectA, WindowA, WindowB}
+use Rattle.paper.specs.declared.Half.the-variants.{Nothing, Escape, Unit, Group, Actions, Images, Characters, Windows, Value, Rest, DownloadA, DownloadFrom, DownloadTo, GlyphWidth, GlyphByte, Low, High, ImageKind, ImageData, EnlargeX, EnlargeY, SelectA, WindowA, WindowB}
 use Rattle.paper.specs.declared.Reading.{Reading}
-use Rattle.paper.specs.declared.Reading.the-variants.{Picture}
-use Rattle.paper.specs.Reading.{between, moreIf, readMove, readFirst, readEscape, readUnit, readGroup, readActions, readPictures, readCharacters, readWindows, readRest, readGlyphByte, readWindowB, word16, readWord, readImage, readOf}
+use Rattle.paper.specs.declared.Reading.the-variants.{ImageByte}
+use Rattle.paper.specs.Reading.{between, moreIf, readMove, readFirst, readEscape, readUnit, readGroup, readActions, readImages, readCharacters, readWindows, readRest, readGlyphByte, readWindowB, word16, readWord, readImage, readOf}
 use Rattle.paper.specs.Bounds.{wordOk, halfOk}
 use Rattle.laws_bytes.specs.Readings.{commandOk, readingOk}
 use Rattle.laws_bytes.proofs.Tests.{both-of, between-facts, between-true}
@@ -134,9 +134,9 @@ module _ (g : Geometry) where
       (either (eqb b 0x40) (passes refl) (passes refl))))
 
   -- after 1Fh 28h 66h
-  pictures-ok : (b : ℕ) → Passes (readPictures b)
-  unfolding readPictures readingOk halfOk wordOk
-  pictures-ok b = either (eqb b 0x11) (passes refl) (passes refl)
+  image-bytes-ok : (b : ℕ) → Passes (readImages b)
+  unfolding readImages readingOk halfOk wordOk
+  image-bytes-ok b = either (eqb b 0x11) (passes refl) (passes refl)
 
   -- after 1Fh 28h 67h
   characters-ok : (b : ℕ) → Passes (readCharacters b)
@@ -241,14 +241,14 @@ module _ (g : Geometry) where
   every-ok Unit b h = unit-ok b
   every-ok Group b h = group-ok b
   every-ok Actions b h = actions-ok b
-  every-ok Pictures b h = pictures-ok b
+  every-ok Images b h = image-bytes-ok b
   every-ok Characters b h = characters-ok b
   every-ok Windows b h = windows-ok b
   every-ok (Value key) b h = passes refl
   every-ok (Rest left) b h = rest-ok left h
-  every-ok DefineA b h = if-ok (eqb b 1) DefineFrom (λ _. refl)
-  every-ok DefineFrom b h = if-ok (leb 0x20 b) (DefineTo b) (λ e. e)
-  every-ok (DefineTo from) b h = if-ok (leb from b) (GlyphWidth from b) (λ e. rw (h, e))
+  every-ok DownloadA b h = if-ok (eqb b 1) DownloadFrom (λ _. refl)
+  every-ok DownloadFrom b h = if-ok (leb 0x20 b) (DownloadTo b) (λ e. e)
+  every-ok (DownloadTo from) b h = if-ok (leb from b) (GlyphWidth from b) (λ e. rw (h, e))
   every-ok (GlyphWidth code last) b h = if-ok (eqb b 5 || eqb b 7) (GlyphByte code last b) (λ e. width-ok code last b h e)
   every-ok (GlyphByte code last left) b h = glyph-ok code last left h
   every-ok (Low w) b h = passes h
@@ -268,10 +268,10 @@ module _ (g : Geometry) where
   reads-ok p b h = every-ok p b h .ok
 
   -- an image byte's place, and what is half read after it
-  pub picture-facts : (column row b : ℕ) (next : Half) → readingOk g (Picture column row b next) ≡ true
+  pub image-byte-facts : (column row b : ℕ) (next : Half) → readingOk g (ImageByte column row b next) ≡ true
       → (column < g .columns) × (row < g .rows) × (halfOk g next ≡ true)
   unfolding readingOk
-  picture-facts column row b next h =
+  image-byte-facts column row b next h =
       let f = both-of (ltb column (g .columns)) _ h in
       let e = both-of (ltb row (g .rows)) _ (f .1) in
       (ltb-true column (g .columns) (f .0), ltb-true row (g .rows) (e .0), e .1)

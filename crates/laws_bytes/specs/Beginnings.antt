@@ -8,16 +8,16 @@ use Rattle.paper.specs.declared.Geometry.{Geometry}
 use Rattle.paper.specs.declared.Word.{Word}
 use Rattle.paper.specs.declared.Word.the-variants.{CursorX, CursorY, WindowLeft, WindowTop, WindowWidth, WindowHeight, ImageWidth, ImageHeight}
 use Rattle.paper.specs.declared.Half.{Half}
-use Rattle.paper.specs.declared.Half.the-variants.{Nothing, Escape, Group, Actions, Pictures, Characters, Windows, Value, Rest, DefineA, DefineFrom, DefineTo, GlyphWidth, GlyphByte, Low, High, ImageKind, ImageData, EnlargeX, EnlargeY, SelectA, WindowA, WindowB}
+use Rattle.paper.specs.declared.Half.the-variants.{Nothing, Escape, Group, Actions, Images, Characters, Windows, Value, Rest, DownloadA, DownloadFrom, DownloadTo, GlyphWidth, GlyphByte, Low, High, ImageKind, ImageData, EnlargeX, EnlargeY, SelectA, WindowA, WindowB}
 use Rattle.paper.specs.declared.Command.{Command}
-use Rattle.paper.specs.declared.Reading.the-variants.{More, Whole, Picture, PictureEnd, Cancels}
+use Rattle.paper.specs.declared.Reading.the-variants.{More, Whole, ImageByte, ImageEnd, Cancels}
 use Rattle.paper.specs.Reading.{readOf}
 
 -- the bytes, in the order in which they are read, begin a command, and this is half read after the last of them
 pub data Begins (g : Geometry) : List ℕ → Half → Type 0 where
   no-byte : Begins g [] Nothing
   one-more : {bs : List ℕ} {p q : Half} (b : ℕ) → Begins g bs p → b < 256 → readOf g p b ≡ More q → Begins g (bs ++ (b ∷ [])) q
-  one-stored : {bs : List ℕ} {p q : Half} (b column row : ℕ) → Begins g bs p → b < 256 → readOf g p b ≡ Picture column row b q
+  one-stored : {bs : List ℕ} {p q : Half} (b column row : ℕ) → Begins g bs p → b < 256 → readOf g p b ≡ ImageByte column row b q
       → Begins g (bs ++ (b ∷ [])) q
 
 -- some bytes lead to a half-read command
@@ -28,9 +28,9 @@ pub record Beginning (g : Geometry) (p : Half) : Type 0 where
 -- the bytes, read one after the other, make what is half read a whole command at the last of them, and not before
 pub data Finishes (g : Geometry) : Half → List ℕ → Type 0 where
   made-whole : {p : Half} (b : ℕ) (c : Command) → b < 256 → readOf g p b ≡ Whole c → Finishes g p (b ∷ [])
-  last-stored : {p : Half} (b column row : ℕ) → b < 256 → readOf g p b ≡ PictureEnd column row b → Finishes g p (b ∷ [])
+  last-stored : {p : Half} (b column row : ℕ) → b < 256 → readOf g p b ≡ ImageEnd column row b → Finishes g p (b ∷ [])
   then-more : {p q : Half} {bs : List ℕ} (b : ℕ) → b < 256 → readOf g p b ≡ More q → Finishes g q bs → Finishes g p (b ∷ bs)
-  then-stored : {p q : Half} {bs : List ℕ} (b column row : ℕ) → b < 256 → readOf g p b ≡ Picture column row b q → Finishes g q bs
+  then-stored : {p q : Half} {bs : List ℕ} (b column row : ℕ) → b < 256 → readOf g p b ≡ ImageByte column row b q → Finishes g q bs
       → Finishes g p (b ∷ bs)
 
 -- some bytes lead from a half-read command to a whole one
@@ -73,14 +73,14 @@ Fits Escape = Unit {0}
 Fits Half.Unit = Unit {0}
 Fits Group = Unit {0}
 Fits Actions = Unit {0}
-Fits Pictures = Unit {0}
+Fits Images = Unit {0}
 Fits Characters = Unit {0}
 Fits Windows = Unit {0}
 Fits (Value key) = Unit {0}
 Fits (Rest left) = Byte left
-Fits DefineA = Unit {0}
-Fits DefineFrom = Unit {0}
-Fits (DefineTo from) = Byte from
+Fits DownloadA = Unit {0}
+Fits DownloadFrom = Unit {0}
+Fits (DownloadTo from) = Byte from
 Fits (GlyphWidth code last) = Byte code × Byte last
 Fits (GlyphByte code last left) = Byte code × Byte last × Byte left
 Fits (Low w) = WordFits w

@@ -6,7 +6,7 @@ use Rattle.paper.specs.declared.Geometry.{Geometry}
 use Rattle.paper.specs.declared.Command.{Command}
 use Rattle.paper.specs.declared.Command.the-variants.{Character, Back, Tab, LineFeed, Home, Clear, Return, Select, Initialise, Mode, Set, Enlarge, CursorSet, Define, Cancel, Uncarried}
 use Rattle.paper.specs.declared.Reading.{Reading}
-use Rattle.paper.specs.declared.Reading.the-variants.{More, Whole, Picture, PictureEnd, Cancels, UnknownCode}
+use Rattle.paper.specs.declared.Reading.the-variants.{More, Whole, ImageByte, ImageEnd, Cancels, UnknownCode}
 use Rattle.paper.specs.Reading.{between}
 use Rattle.paper.specs.Bounds.{halfOk}
 
@@ -34,7 +34,7 @@ commandOk Uncarried = true
 unfoldable pub readingOk : Geometry → Reading → Bool
 readingOk g (More p) = halfOk g p
 readingOk g (Whole c) = commandOk c
-readingOk g (Picture column row b next) = ltb column (g .columns) && (ltb row (g .rows) && halfOk g next)
-readingOk g (PictureEnd column row b) = ltb column (g .columns) && ltb row (g .rows)
+readingOk g (ImageByte column row b next) = ltb column (g .columns) && (ltb row (g .rows) && halfOk g next)
+readingOk g (ImageEnd column row b) = ltb column (g .columns) && ltb row (g .rows)
 readingOk g Cancels = true
 readingOk g UnknownCode = true

@@ -12,7 +12,7 @@ use Rattle.paper.specs.declared.Refusal.the-variants.{Accepted}
 use Rattle.paper.specs.Panel.{panel, byteOf, glyphDot, dot}
 use Rattle.paper.specs.Strokes.{rectMap, grown, grownBy, refreshed, shown}
 use Rattle.paper.specs.Numbers.{outcomeNumber, refusalNumber, carriedBy, answeredBy}
-use Rattle.paper.specs.Reading.{readMove, readFirst, readEscape, readUnit, readGroup, readPictures, readWindows, readWindowB, readWord, readOf}
+use Rattle.paper.specs.Reading.{readMove, readFirst, readEscape, readUnit, readGroup, readImages, readWindows, readWindowB, readWord, readOf}
 use Rattle.paper.specs.Settings.{initialStyle, initialSettings, topLeft, initialState, inDomain, inEnlargement, selectable, fits, cursorOf, atCursor, inMode, insideWindow, baseView, viewOf, cursorIn}
 use Rattle.paper.specs.Bounds.{settingsOk, cursorOk, isBlank, windowOk, windowsOk, holdOk, spanOk, wordOk, halfOk, accepted}
 use Rattle.paper.specs.Cells.{cellDot, penned, cellWidth, tooLarge}
@@ -76,7 +76,7 @@ a-font = record { size = refl; bytes = λ k. same-bytes 1120 0xFE k (omega arith
 -- ---- the cases
 
 pub marked : (font : List ℕ) → Font font → Marked font
-unfolding begun fresh startCall startRefusal isAccepted refreshCall refreshRefusal emptied refreshed shown panel byteOf glyphDot rectMap grown grownBy outcomeNumber refusalNumber carriedBy answeredBy readMove readFirst readEscape readUnit readGroup readPictures readWindows readWindowB readWord readOf initialStyle initialSettings topLeft initialState inDomain inEnlargement selectable fits cursorOf atCursor inMode insideWindow baseView viewOf cursorIn settingsOk cursorOk isBlank windowOk windowsOk holdOk spanOk wordOk halfOk accepted cellDot penned cellWidth tooLarge nextLine nextLineUp pushLeft htOf drawTab blankTab characterOf lineDown lineDownUp lineFeedOf clearOf notCarried isHeld ownersOnly outOfDomain notDefined cellExceeds carriedOut commandOf takeOf byteMeans next holdRefusal heldBy holdCall dotsBelow dotsAbove
+unfolding begun fresh startCall startRefusal isAccepted refreshCall refreshRefusal emptied refreshed shown panel byteOf glyphDot rectMap grown grownBy outcomeNumber refusalNumber carriedBy answeredBy readMove readFirst readEscape readUnit readGroup readImages readWindows readWindowB readWord readOf initialStyle initialSettings topLeft initialState inDomain inEnlargement selectable fits cursorOf atCursor inMode insideWindow baseView viewOf cursorIn settingsOk cursorOk isBlank windowOk windowsOk holdOk spanOk wordOk halfOk accepted cellDot penned cellWidth tooLarge nextLine nextLineUp pushLeft htOf drawTab blankTab characterOf lineDown lineDownUp lineFeedOf clearOf notCarried isHeld ownersOnly outOfDomain notDefined cellExceeds carriedOut commandOf takeOf byteMeans next holdRefusal heldBy holdCall dotsBelow dotsAbove
 marked font f = record {
   fresh-memory = refl;
   case-1 = on [];

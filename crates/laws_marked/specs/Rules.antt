@@ -4,7 +4,7 @@ use mathlib.Core.List.{List, [], _∷_, map}
 use Prim.Native.Nat.{ℕ}
 use Rattle.paper.specs.declared.Command.{Command}
 use Rattle.paper.specs.declared.Command.the-variants.{Character, Tab, LineFeed, Clear, Initialise}
-use Rattle.paper.specs.declared.Reading.the-variants.{PictureEnd}
+use Rattle.paper.specs.declared.Reading.the-variants.{ImageEnd}
 use Rattle.paper.specs.declared.State.{State}
 use Rattle.paper.specs.Panel.{panel}
 use Rattle.paper.specs.Strokes.{Rule, draw, wrapBlank, scroll, clear, image, initialise, Stroke}
@@ -29,5 +29,5 @@ pub record Rules (font : List ℕ) : Type 0 where
   pub a-line-feed-scrolls : written font (at 0 1 2) LineFeed ≡ scroll ∷ []
   pub a-clear : written font (at 5 1 1) Clear ≡ clear ∷ []
   pub an-initialise : written font (at 5 1 1) Initialise ≡ initialise ∷ []
-  pub an-image-byte : rulesOf (takeOf panel font (at 5 1 1) (PictureEnd 0 0 0xFF)) ≡ image ∷ []
-  pub an-image-byte-outside : rulesOf (takeOf panel font (at 5 1 1) (PictureEnd 0 1 0xFF)) ≡ []
+  pub an-image-byte : rulesOf (takeOf panel font (at 5 1 1) (ImageEnd 0 0 0xFF)) ≡ image ∷ []
+  pub an-image-byte-outside : rulesOf (takeOf panel font (at 5 1 1) (ImageEnd 0 1 0xFF)) ≡ []

@@ -10,18 +10,18 @@ use Rattle.paper.specs.declared.Geometry.{Geometry}
 use Rattle.paper.specs.declared.Word.{Word}
 use Rattle.paper.specs.declared.Word.the-variants.{CursorX, CursorY, WindowLeft, WindowTop, WindowWidth, WindowHeight, ImageWidth, ImageHeight}
 use Rattle.paper.specs.declared.Half.{Half}
-use Rattle.paper.specs.declared.Half.the-variants.{Nothing, Escape, Group, Actions, Pictures, Characters, Windows, Value, Rest, DefineA, DefineFrom, DefineTo, GlyphWidth, GlyphByte, Low, High, ImageKind, ImageData, EnlargeX, EnlargeY, SelectA, WindowA, WindowB}
+use Rattle.paper.specs.declared.Half.the-variants.{Nothing, Escape, Group, Actions, Images, Characters, Windows, Value, Rest, DownloadA, DownloadFrom, DownloadTo, GlyphWidth, GlyphByte, Low, High, ImageKind, ImageData, EnlargeX, EnlargeY, SelectA, WindowA, WindowB}
 use Rattle.paper.specs.declared.Reading.{Reading}
-use Rattle.paper.specs.declared.Reading.the-variants.{More, Whole, Picture, PictureEnd, Cancels, UnknownCode}
-use Rattle.paper.specs.Reading.{between, moreIf, readMove, readFirst, readEscape, readUnit, readGroup, readActions, readPictures, readCharacters, readWindows, readRest, readGlyphByte, readWindowB, word16, readWord, readImage, readOf}
+use Rattle.paper.specs.declared.Reading.the-variants.{More, Whole, ImageByte, ImageEnd, Cancels, UnknownCode}
+use Rattle.paper.specs.Reading.{between, moreIf, readMove, readFirst, readEscape, readUnit, readGroup, readActions, readImages, readCharacters, readWindows, readRest, readGlyphByte, readWindowB, word16, readWord, readImage, readOf}
 use Rattle.laws_bytes.specs.Beginnings.{Begins, no-byte, one-more, one-stored, WordFits, Fits}
 
 -- what is half read after a reading fits
 abbrev Next : Reading → Type 0
 Next (More p) = Fits p
 Next (Whole c) = Unit {0}
-Next (Picture column row b p) = Fits p
-Next (PictureEnd column row b) = Unit {0}
+Next (ImageByte column row b p) = Fits p
+Next (ImageEnd column row b) = Unit {0}
 Next Cancels = Unit {0}
 Next UnknownCode = Unit {0}
 
@@ -130,21 +130,21 @@ module _ (g : Geometry) where
 
   -- every half-read command
   next-fits : (p : Half) (b : ℕ) → Fits p → b < 256 → Fitting (readOf g p b)
-  unfolding readOf readPictures readCharacters readWindows readRest readWindowB
+  unfolding readOf readImages readCharacters readWindows readRest readWindowB
   next-fits Nothing b f l = first-fits b
   next-fits Escape b f l = escape-fits b
   next-fits Half.Unit b f l = unit-fits b
   next-fits Group b f l = group-fits b
   next-fits Actions b f l = actions-fits b
-  next-fits Pictures b f l = either (eqb b 0x11) (fitting tt) (fitting tt)
+  next-fits Images b f l = either (eqb b 0x11) (fitting tt) (fitting tt)
   next-fits Characters b f l = either (eqb b 0x03) (fitting tt) (either (eqb b 0x40) (fitting tt) (fitting tt))
   next-fits Windows b f l =
       either (eqb b 0x01) (fitting tt) (either (eqb b 0x02) (fitting tt) (either (eqb b 0x10) (fitting tt) (fitting tt)))
   next-fits (Value key) b f l = fitting tt
   next-fits (Rest left) b f l = either (leb left 1) (fitting tt) (fitting (omega arith))
-  next-fits DefineA b f l = if-fits (eqb b 1) DefineFrom tt
-  next-fits DefineFrom b f l = if-fits (leb 0x20 b) (DefineTo b) l
-  next-fits (DefineTo from) b f l = if-fits (leb from b) (GlyphWidth from b) (f, l)
+  next-fits DownloadA b f l = if-fits (eqb b 1) DownloadFrom tt
+  next-fits DownloadFrom b f l = if-fits (leb 0x20 b) (DownloadTo b) l
+  next-fits (DownloadTo from) b f l = if-fits (leb from b) (GlyphWidth from b) (f, l)
   next-fits (GlyphWidth code last) b f l = if-fits (eqb b 5 || eqb b 7) (GlyphByte code last b) (f .0, f .1, l)
   next-fits (GlyphByte code last left) b f l = glyph-fits code last left f
   next-fits (Low w) b f l = fitting (f, l)

@@ -26,7 +26,7 @@ use Rattle.laws_bytes.proofs.Beginnings.{begins-ok, ok-begins}
 use Rattle.laws_state.specs.Parts.{Parts}
 use Rattle.laws_state.proofs.Tests.{neither}
 use Rattle.laws_state.proofs.Parts.{parts, cursor-facts, fits-facts, window-at, selected-facts, HeldWell, hold-facts}
-use Rattle.laws_number8.specs.Row.{window, Defined, Outside, NoMode, OutOfDomain, charset, codes, shown, brightness, reverse, speed, mixing, width, across, down, write, span, lastOf, Breaks, window-leaves, window-of-no-size, cursor-outside, base-cursor-outside, setting-out, mode-out, base-mode-out, saved-setting-out, undefined-selected, undefined-held, undefined-saved, held-not-selected, span-wrong, half-impossible}
+use Rattle.laws_number8.specs.Row.{window, Defined, Outside, NoMode, OutOfDomain, charset, codes, caret, brightness, reverse, speed, mixing, width, across, down, write, span, lastOf, Breaks, window-leaves, window-of-no-size, cursor-outside, base-cursor-outside, setting-out, mode-out, base-mode-out, saved-setting-out, undefined-selected, undefined-held, undefined-saved, held-not-selected, span-wrong, half-impossible}
 
 -- ---- tests that fail
 
@@ -55,7 +55,7 @@ settings-out v =
     (λ e.
     let n = neither (leb (v .codes) 5) (between 16 19 (v .codes)) e in
     codes (leb-false (v .codes) 5 (n .0)) (not-between 16 19 (v .codes) (n .1)))
-    (fails (leb (v .shown) 1) (λ e. shown (leb-false (v .shown) 1 e))
+    (fails (leb (v .caret) 1) (λ e. caret (leb-false (v .caret) 1 e))
     (fails (between 1 8 (v .brightness)) (λ e. brightness (not-between 1 8 (v .brightness) e))
     (fails (leb (v .speed) 31) (λ e. speed (leb-false (v .speed) 31 e))
     (fails (leb (v .width) 1) (λ e. width (leb-false (v .width) 1 e))
@@ -78,7 +78,7 @@ abbrev InDomains : Settings → Type 0
 InDomains v =
     (leb (v .charset) 13 ≡ true)
     × ((leb (v .codes) 5 || between 16 19 (v .codes)) ≡ true)
-    × (leb (v .shown) 1 ≡ true)
+    × (leb (v .caret) 1 ≡ true)
     × (between 1 8 (v .brightness) ≡ true)
     × (leb (v .speed) 31 ≡ true)
     × (leb (v .width) 1 ≡ true)
@@ -93,7 +93,7 @@ unfolding settingsOk inDomain inEnlargement
 in-domains v h =
     let a = both-of (leb (v .charset) 13) _ h in
     let b = both-of (leb (v .codes) 5 || between 16 19 (v .codes)) _ (a .1) in
-    let c = both-of (leb (v .shown) 1) _ (b .1) in
+    let c = both-of (leb (v .caret) 1) _ (b .1) in
     let d = both-of (between 1 8 (v .brightness)) _ (c .1) in
     let e = both-of (leb (v .speed) 31) _ (d .1) in
     let f = both-of (leb (v .width) 1) _ (e .1) in
@@ -112,7 +112,7 @@ in-codes false n q e o p = inside 16 19 n e p
 settings-in : (v : Settings) → InDomains v → ¬ OutOfDomain v
 settings-in v t (charset o) = below (v .charset) 13 (t .0) o
 settings-in v t (codes o p) = in-codes (leb (v .codes) 5) (v .codes) refl (t .1) o p
-settings-in v t (shown o) = below (v .shown) 1 (t .2) o
+settings-in v t (caret o) = below (v .caret) 1 (t .2) o
 settings-in v t (brightness o) = inside 1 8 (v .brightness) (t .3) o
 settings-in v t (reverse o) = below (v .style .reverse) 1 (t .7) o
 settings-in v t (speed o) = below (v .speed) 31 (t .4) o

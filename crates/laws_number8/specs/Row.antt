@@ -41,7 +41,7 @@ pub data OutOfDomain (v : Settings) : Type 0 where
   charset : 13 < v .charset → OutOfDomain v
   codes : 5 < v .codes → (v .codes < 16) ⊎ (19 < v .codes) → OutOfDomain v
   -- 1Fh: "43h n (0, 1)", "58h n (1 to 8)", "72h n (0, 1) reverse", "73h n (0 to 31, kept only)", "77h n (0 to 3) mixing"
-  shown : 1 < v .shown → OutOfDomain v
+  caret : 1 < v .caret → OutOfDomain v
   brightness : (v .brightness < 1) ⊎ (8 < v .brightness) → OutOfDomain v
   reverse : 1 < v .style .reverse → OutOfDomain v
   speed : 31 < v .speed → OutOfDomain v

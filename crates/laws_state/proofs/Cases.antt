@@ -10,7 +10,7 @@ use Rattle.paper.specs.declared.Half.{Half}
 use Rattle.paper.specs.declared.Half.the-variants.{Nothing}
 use Rattle.paper.specs.declared.Command.{Command}
 use Rattle.paper.specs.declared.Reading.{Reading}
-use Rattle.paper.specs.declared.Reading.the-variants.{More, Whole, Picture, PictureEnd, Cancels, UnknownCode}
+use Rattle.paper.specs.declared.Reading.the-variants.{More, Whole, ImageByte, ImageEnd, Cancels, UnknownCode}
 use Rattle.paper.specs.declared.Outcome.{Outcome}
 use Rattle.paper.specs.declared.Outcome.the-variants.{Unfinished, Carried, OutOfDomain, Cancelled, Unknown, NotCarried, WindowHeld, TooLarge, NotDefined}
 use Rattle.paper.specs.declared.State.{State}
@@ -55,10 +55,10 @@ module _ (g : Geometry) (font : List ℕ) (P : Meaning → Type 0) where
     unfolding takeOf readingOk halfOk
     by-reading (More p) h = quiet p Unfinished h
     by-reading (Whole c) h = by-command (withHalf s Nothing) c (λ o. quiet Nothing o refl) (done c h)
-    by-reading (Picture column row b next) h =
+    by-reading (ImageByte column row b next) h =
         let f = both-of (ltb column (g .columns)) _ h in
         image next Unfinished column row b (both-of (ltb row (g .rows)) (halfOk g next) (f .1) .1)
-    by-reading (PictureEnd column row b) h = image Nothing Carried column row b refl
+    by-reading (ImageEnd column row b) h = image Nothing Carried column row b refl
     by-reading Cancels h = quiet Nothing Cancelled refl
     by-reading UnknownCode h = quiet Nothing Unknown refl
 
@@ -77,8 +77,8 @@ module _ (g : Geometry) (font : List ℕ) (P : Meaning → Type 0) where
     unfolding takeOf
     any-reading (More p) = quiet p Unfinished
     any-reading (Whole c) = by-command (withHalf s Nothing) c (quiet Nothing) (λ _. done c)
-    any-reading (Picture column row b next) = image next Unfinished column row b
-    any-reading (PictureEnd column row b) = image Nothing Carried column row b
+    any-reading (ImageByte column row b next) = image next Unfinished column row b
+    any-reading (ImageEnd column row b) = image Nothing Carried column row b
     any-reading Cancels = quiet Nothing Cancelled
     any-reading UnknownCode = quiet Nothing Unknown
 

@@ -29,7 +29,7 @@ use Rattle.paper.specs.Moves.{Moved, characterOf}
 use Rattle.paper.specs.Carry.{Meaning, means, notCarried, ownersOnly, outOfDomain, notDefined, cellExceeds, exceeds, moves, carriedOut, commandOf, imageStrokes, takeOf, byteMeans}
 use Rattle.paper.specs.Calls.{Feeding, feeding, settled, counted, next}
 use Rattle.laws_state.specs.Room.{Usable, Room, Kept}
-use Rattle.laws_state.specs.Runs.{Reaches, here, Sheet, movedOn, writtenOn, Written, written, charactersOf, onSheet, Within, Image, storedOn, Stored, stored, picturesOf, halfAt, outcomeAt, doneAt, onImage}
+use Rattle.laws_state.specs.Runs.{Reaches, here, Sheet, movedOn, writtenOn, Written, written, charactersOf, onSheet, Within, Image, storedOn, Stored, stored, imageBytesOf, halfAt, outcomeAt, doneAt, onImage}
 use Rattle.laws_state.proofs.Moves.{character-kept}
 use Rattle.laws_state.proofs.Views.{view-room}
 use Rattle.laws_state.proofs.Reached.{reaches-next}
@@ -150,11 +150,11 @@ module _ (g : Geometry) (font : List ℕ) (s : State) (r : Refusal) (a width hei
   awaiting i = withHalf (withSpans s (i .spans)) (ImageData width height (i .column) (i .row))
 
   -- one byte of an image
-  pub picture-next : (i : Image) (c : ℕ) (o : Outcome) (b : ℕ) → i .column < width
+  pub image-byte-next : (i : Image) (c : ℕ) (o : Outcome) (b : ℕ) → i .column < width
       → next g font (feeding r (awaiting i) c a o (i .mem)) b
       ≡ feeding r (onImage s width height (imaged i b)) (c + doneAt width (imaged i b)) a (outcomeAt width (imaged i b)) (imaged i b .mem)
   unfolding next byteMeans readOf readImage takeOf viewOf carriedBy answeredBy
-  picture-next i c o b l =
+  image-byte-next i c o b l =
       go (ltb (i .row + 1) height) refl (ltb (i .column + 1) width) refl
       ∙ ap (λ (n : ℕ). feeding r (onImage s width height (imaged i b)) (c + doneAt width (imaged i b)) n (outcomeAt width (imaged i b)) (imaged i b .mem)) (add-zero a)
     where
@@ -166,37 +166,37 @@ module _ (g : Geometry) (font : List ℕ) (s : State) (r : Refusal) (a width hei
       go false e false f = let k = ltb-false (i .column + 1) width f in rw (e, f, eq-eqb (i .column + 1) width (omega arith))
 
   -- a byte of an image, and then those that follow it, whatever the byte before came to
-  picture-then : (o : Outcome) (b : ℕ) (bs : List ℕ) (i : Image) (c : ℕ) → i .column < width
-      → let again = picturesOf g (viewOf g s) (s .settings .style) width height (imaged i b) bs in
+  image-byte-then : (o : Outcome) (b : ℕ) (bs : List ℕ) (i : Image) (c : ℕ) → i .column < width
+      → let again = imageBytesOf g (viewOf g s) (s .settings .style) width height (imaged i b) bs in
       (imaged i b .column < width
       → Reaches g font (feeding r (awaiting (imaged i b)) c a Unfinished (imaged i b .mem)) bs
       (feeding r (onImage s width height (again .on)) (c + doneAt width (again .on)) a (outcomeAt width (again .on)) (again .on .mem)) (again .rest))
-      → let t = picturesOf g (viewOf g s) (s .settings .style) width height i (b ∷ bs) in
+      → let t = imageBytesOf g (viewOf g s) (s .settings .style) width height i (b ∷ bs) in
       Reaches g font (feeding r (awaiting i) c a o (i .mem)) (b ∷ bs)
       (feeding r (onImage s width height (t .on)) (c + doneAt width (t .on)) a (outcomeAt width (t .on)) (t .on .mem)) (t .rest)
-  picture-then o b bs i c l more = go (eqb (imaged i b .column) width) refl where
+  image-byte-then o b bs i c l more = go (eqb (imaged i b .column) width) refl where
     again : Stored
-    again = picturesOf g (viewOf g s) (s .settings .style) width height (imaged i b) bs
+    again = imageBytesOf g (viewOf g s) (s .settings .style) width height (imaged i b) bs
 
     go : (z : Bool) → eqb (imaged i b .column) width ≡ z
         → let t = cond z (stored (imaged i b) bs) again in
         Reaches g font (feeding r (awaiting i) c a o (i .mem)) (b ∷ bs)
         (feeding r (onImage s width height (t .on)) (c + doneAt width (t .on)) a (outcomeAt width (t .on)) (t .on .mem)) (t .rest)
-    go true e = reaches-next b (picture-next i c o b l) here
+    go true e = reaches-next b (image-byte-next i c o b l) here
     go false e =
-        reaches-next b (picture-next i c o b l ∙ rw (e, add-zero c)) (more (column-next (ltb (i .row + 1) height) (i .column) width l e))
+        reaches-next b (image-byte-next i c o b l ∙ rw (e, add-zero c)) (more (column-next (ltb (i .row + 1) height) (i .column) width l e))
 
   -- after a byte of an image, those that follow it
-  pictures-after : (bs : List ℕ) (i : Image) (c : ℕ) → i .column < width
-      → let t = picturesOf g (viewOf g s) (s .settings .style) width height i bs in
+  image-bytes-after : (bs : List ℕ) (i : Image) (c : ℕ) → i .column < width
+      → let t = imageBytesOf g (viewOf g s) (s .settings .style) width height i bs in
       Reaches g font (feeding r (awaiting i) c a Unfinished (i .mem)) bs
       (feeding r (onImage s width height (t .on)) (c + doneAt width (t .on)) a (outcomeAt width (t .on)) (t .on .mem)) (t .rest)
-  pictures-after [] i c l = rw (ne-eqb (i .column) width (omega arith), add-zero c) here
-  pictures-after (b ∷ bs) i c l = picture-then Unfinished b bs i c l (pictures-after bs (imaged i b) c)
+  image-bytes-after [] i c l = rw (ne-eqb (i .column) width (omega arith), add-zero c) here
+  image-bytes-after (b ∷ bs) i c l = image-byte-then Unfinished b bs i c l (image-bytes-after bs (imaged i b) c)
 
   -- THE LAW: an image's bytes are reached as a run, the whole image counted
-  pub pictures-reached : (o : Outcome) (b : ℕ) (bs : List ℕ) (i : Image) (c : ℕ) → i .column < width
-      → let t = picturesOf g (viewOf g s) (s .settings .style) width height i (b ∷ bs) in
+  pub image-bytes-reached : (o : Outcome) (b : ℕ) (bs : List ℕ) (i : Image) (c : ℕ) → i .column < width
+      → let t = imageBytesOf g (viewOf g s) (s .settings .style) width height i (b ∷ bs) in
       Reaches g font (feeding r (awaiting i) c a o (i .mem)) (b ∷ bs)
       (feeding r (onImage s width height (t .on)) (c + doneAt width (t .on)) a (outcomeAt width (t .on)) (t .on .mem)) (t .rest)
-  pictures-reached o b bs i c l = picture-then o b bs i c l (pictures-after bs (imaged i b) c)
+  image-bytes-reached o b bs i c l = image-byte-then o b bs i c l (image-bytes-after bs (imaged i b) c)

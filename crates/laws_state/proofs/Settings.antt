@@ -6,7 +6,7 @@ use native.Mathlib.Omega.{arith}
 use lib.Dec.{eqb}
 use Rattle.paper.specs.declared.Settings.{Settings}
 use Rattle.paper.specs.declared.Key.{Key}
-use Rattle.paper.specs.declared.Key.the-variants.{Charset, Codes, Shown, Brightness, Reverse, Speed, Mixing, Width, Write}
+use Rattle.paper.specs.declared.Key.the-variants.{Charset, Codes, Caret, Brightness, Reverse, Speed, Mixing, Width, Write}
 use Rattle.paper.specs.Reading.{between}
 use Rattle.paper.specs.Settings.{inDomain, inEnlargement, withSetting, enlarged}
 use Rattle.paper.specs.Bounds.{settingsOk}
@@ -18,7 +18,7 @@ use Rattle.laws_state.specs.Room.{CellSize}
 pub record Domains (v : Settings) : Type 0 where
   pub charset : inDomain Charset (v .charset) ≡ true
   pub codes : inDomain Codes (v .codes) ≡ true
-  pub shown : inDomain Shown (v .shown) ≡ true
+  pub caret : inDomain Caret (v .caret) ≡ true
   pub brightness : inDomain Brightness (v .brightness) ≡ true
   pub speed : inDomain Speed (v .speed) ≡ true
   pub width : inDomain Width (v .width) ≡ true
@@ -33,8 +33,8 @@ unfolding settingsOk
 domains v h =
     let charset = both-of (inDomain Charset (v .charset)) _ h in
     let codes = both-of (inDomain Codes (v .codes)) _ (charset .1) in
-    let shown = both-of (inDomain Shown (v .shown)) _ (codes .1) in
-    let brightness = both-of (inDomain Brightness (v .brightness)) _ (shown .1) in
+    let caret = both-of (inDomain Caret (v .caret)) _ (codes .1) in
+    let brightness = both-of (inDomain Brightness (v .brightness)) _ (caret .1) in
     let speed = both-of (inDomain Speed (v .speed)) _ (brightness .1) in
     let width = both-of (inDomain Width (v .width)) _ (speed .1) in
     let write = both-of (inDomain Write (v .write)) _ (width .1) in
@@ -43,7 +43,7 @@ domains v h =
     record {
       charset = charset .0;
       codes = codes .0;
-      shown = shown .0;
+      caret = caret .0;
       brightness = brightness .0;
       speed = speed .0;
       width = width .0;
@@ -63,29 +63,29 @@ module _ (v : Settings) (p : Domains v) where
   set-by : (key : Key) (n : ℕ) → inDomain key n ≡ true → settingsOk (withSetting v key n) ≡ true
   unfolding settingsOk withSetting
   set-by Charset n h =
-      ten h (p .codes) (p .shown) (p .brightness) (p .speed) (p .width) (p .write) (p .reverse) (p .mixing) (p .enlargement)
+      ten h (p .codes) (p .caret) (p .brightness) (p .speed) (p .width) (p .write) (p .reverse) (p .mixing) (p .enlargement)
   set-by Codes n h =
-      ten (p .charset) h (p .shown) (p .brightness) (p .speed) (p .width) (p .write) (p .reverse) (p .mixing) (p .enlargement)
-  set-by Shown n h =
+      ten (p .charset) h (p .caret) (p .brightness) (p .speed) (p .width) (p .write) (p .reverse) (p .mixing) (p .enlargement)
+  set-by Caret n h =
       ten (p .charset) (p .codes) h (p .brightness) (p .speed) (p .width) (p .write) (p .reverse) (p .mixing) (p .enlargement)
   set-by Brightness n h =
-      ten (p .charset) (p .codes) (p .shown) h (p .speed) (p .width) (p .write) (p .reverse) (p .mixing) (p .enlargement)
+      ten (p .charset) (p .codes) (p .caret) h (p .speed) (p .width) (p .write) (p .reverse) (p .mixing) (p .enlargement)
   set-by Reverse n h =
-      ten (p .charset) (p .codes) (p .shown) (p .brightness) (p .speed) (p .width) (p .write) h (p .mixing) (p .enlargement)
+      ten (p .charset) (p .codes) (p .caret) (p .brightness) (p .speed) (p .width) (p .write) h (p .mixing) (p .enlargement)
   set-by Speed n h =
-      ten (p .charset) (p .codes) (p .shown) (p .brightness) h (p .width) (p .write) (p .reverse) (p .mixing) (p .enlargement)
+      ten (p .charset) (p .codes) (p .caret) (p .brightness) h (p .width) (p .write) (p .reverse) (p .mixing) (p .enlargement)
   set-by Mixing n h =
-      ten (p .charset) (p .codes) (p .shown) (p .brightness) (p .speed) (p .width) (p .write) (p .reverse) h (p .enlargement)
+      ten (p .charset) (p .codes) (p .caret) (p .brightness) (p .speed) (p .width) (p .write) (p .reverse) h (p .enlargement)
   set-by Width n h =
-      ten (p .charset) (p .codes) (p .shown) (p .brightness) (p .speed) h (p .write) (p .reverse) (p .mixing) (p .enlargement)
+      ten (p .charset) (p .codes) (p .caret) (p .brightness) (p .speed) h (p .write) (p .reverse) (p .mixing) (p .enlargement)
   set-by Write n h =
-      ten (p .charset) (p .codes) (p .shown) (p .brightness) (p .speed) (p .width) h (p .reverse) (p .mixing) (p .enlargement)
+      ten (p .charset) (p .codes) (p .caret) (p .brightness) (p .speed) (p .width) h (p .reverse) (p .mixing) (p .enlargement)
 
   -- the enlargement changed
   enlarge-by : (x y : ℕ) → inEnlargement x y ≡ true → settingsOk (enlarged v x y) ≡ true
   unfolding settingsOk
   enlarge-by x y h =
-      ten (p .charset) (p .codes) (p .shown) (p .brightness) (p .speed) (p .width) (p .write) (p .reverse) (p .mixing) h
+      ten (p .charset) (p .codes) (p .caret) (p .brightness) (p .speed) (p .width) (p .write) (p .reverse) (p .mixing) h
 
 -- six or seven columns, once to four times
 width-bounds : (t : Bool) (n : ℕ) → 1 ≤ n → n ≤ 4 → (6 ≤ cond t 6 7 * n) × (cond t 6 7 * n ≤ 28)

@@ -12,7 +12,7 @@ use borrow.Author.Tests.{le-leb, lt-leb}
 use Rattle.paper.specs.declared.Geometry.{Geometry}
 use Rattle.paper.specs.declared.Style.{Style}
 use Rattle.paper.specs.declared.View.{View}
-use Rattle.laws_state.specs.Runs.{Sheet, writtenOn, written, charactersOf, Image, storedOn, stored, picturesOf}
+use Rattle.laws_state.specs.Runs.{Sheet, writtenOn, written, charactersOf, Image, storedOn, stored, imageBytesOf}
 
 -- a piece from a place on
 pub from-here : (bs : List ℕ) (i : ℕ) → i < length bs → drop i bs ≡ getD bs i 0 ∷ drop (i + 1) bs
@@ -34,15 +34,15 @@ module _ (g : Geometry) (font : List ℕ) (w : ℕ) (y : Style) (bs : List ℕ) 
 
 module _ (g : Geometry) (v : View) (y : Style) (width height : ℕ) (bs : List ℕ) (i : ℕ) (m : Image) where
   -- a byte is stored, and the image is not whole
-  pub pictures-more : {m′ : Image} → i < length bs → m′ ≡ storedOn g v y height m (getD bs i 0) → eqb (m′ .column) width ≡ false
-      → picturesOf g v y width height m′ (drop (i + 1) bs) ≡ picturesOf g v y width height m (drop i bs)
-  pictures-more l e n = rw (from-here bs i l, e, rw e at n)
+  pub image-bytes-more : {m′ : Image} → i < length bs → m′ ≡ storedOn g v y height m (getD bs i 0) → eqb (m′ .column) width ≡ false
+      → imageBytesOf g v y width height m′ (drop (i + 1) bs) ≡ imageBytesOf g v y width height m (drop i bs)
+  image-bytes-more l e n = rw (from-here bs i l, e, rw e at n)
 
   -- a byte is stored, and the image is whole
-  pub pictures-whole : {m′ : Image} → i < length bs → m′ ≡ storedOn g v y height m (getD bs i 0) → eqb (m′ .column) width ≡ true
-      → stored m′ (drop (i + 1) bs) ≡ picturesOf g v y width height m (drop i bs)
-  pictures-whole l e n = rw (from-here bs i l, e, rw e at n)
+  pub image-bytes-whole : {m′ : Image} → i < length bs → m′ ≡ storedOn g v y height m (getD bs i 0) → eqb (m′ .column) width ≡ true
+      → stored m′ (drop (i + 1) bs) ≡ imageBytesOf g v y width height m (drop i bs)
+  image-bytes-whole l e n = rw (from-here bs i l, e, rw e at n)
 
   -- the piece ends
-  pub pictures-end : length bs ≤ i → stored m (drop i bs) ≡ picturesOf g v y width height m (drop i bs)
-  pictures-end b = rw (drop-of-length-le bs {i = i} b)
+  pub image-bytes-end : length bs ≤ i → stored m (drop i bs) ≡ imageBytesOf g v y width height m (drop i bs)
+  image-bytes-end b = rw (drop-of-length-le bs {i = i} b)

@@ -97,11 +97,11 @@ abbrev pub stored : Image → List ℕ → Stored
 stored i rest = record { on = i; rest = rest }
 
 -- the bytes of an image that bytes begin with: all of them, or up to the image's last, after which the column is the width
-abbrev pub picturesOf : Geometry → View → Style → ℕ → ℕ → Image → List ℕ → Stored
-picturesOf g v y width height i [] = stored i []
-picturesOf g v y width height i (b ∷ bs) =
+abbrev pub imageBytesOf : Geometry → View → Style → ℕ → ℕ → Image → List ℕ → Stored
+imageBytesOf g v y width height i [] = stored i []
+imageBytesOf g v y width height i (b ∷ bs) =
     cond (eqb (storedOn g v y height i b .column) width) (stored (storedOn g v y height i b) bs)
-    (picturesOf g v y width height (storedOn g v y height i b) bs)
+    (imageBytesOf g v y width height (storedOn g v y height i b) bs)
 
 -- what is half read then, and what the last byte came to
 abbrev pub halfAt : ℕ → ℕ → Image → Half

@@ -10,26 +10,26 @@ use Rattle.paper.specs.Moves.{Moved, only, writing, andThen}
 use Rattle.laws_memory.specs.Spans.{markRect}
 use Rattle.laws_memory.proofs.Strokes.{apply-append}
 use Rattle.laws_memory.proofs.Spans.{marked-rect, marks-append}
-use Rattle.moves.specs.declared.Pen.{Pen}
-use Rattle.moves.specs.Does.{Does, pen}
+use Rattle.moves.specs.declared.Spot.{Spot}
+use Rattle.moves.specs.Does.{Does, spot}
 
--- a pen whose view is known
-pub pen-at : {u v : View} {ps : List Span} → u ≡ v → pen u ps ≡ pen v ps
-pen-at {ps} e = ap (λ (w : View). pen w ps) e
+-- a spot whose view is known
+pub spot-at : {u v : View} {ps : List Span} → u ≡ v → spot u ps ≡ spot v ps
+spot-at {ps} e = ap (λ (w : View). spot w ps) e
 
 module _ {g : Geometry} {ps : List Span} {m : List ℕ} where
   -- the cursor went to v and nothing was written
-  pub does-only : {p : Pen} (v : View) → p ≡ pen v ps → Does g ps m p m (only v)
-  does-only v e = record { view = ap (λ (p : Pen). p .view) e; spans = ap (λ (p : Pen). p .spans) e; mem = refl }
+  pub does-only : {p : Spot} (v : View) → p ≡ spot v ps → Does g ps m p m (only v)
+  does-only v e = record { view = ap (λ (p : Spot). p .view) e; spans = ap (λ (p : Spot). p .spans) e; mem = refl }
 
   -- a stroke was made, its rectangle was marked, and the cursor went to v
   pub does-stroke : {u : View} {qs : List Span} {m′ : List ℕ} (s : Stroke) (v : View) → u ≡ v
       → qs ≡ markRect (s .left) (s .top) (s .width) (s .height) ps → m′ ≡ applied g m s
-      → Does g ps m (pen u qs) m′ (writing s v)
+      → Does g ps m (spot u qs) m′ (writing s v)
   does-stroke s v e k h = record { view = e; spans = k ∙ sym (marked-rect ps s); mem = h }
 
   -- a move, and then the one that f makes of where it ended
-  pub does-after : {p r : Pen} {m₁ m₂ : List ℕ} (t : Moved) (f : View → Moved) → Does g ps m p m₁ t
+  pub does-after : {p r : Spot} {m₁ m₂ : List ℕ} (t : Moved) (f : View → Moved) → Does g ps m p m₁ t
       → Does g (p .spans) m₁ r m₂ (f (p .view)) → Does g ps m r m₂ (andThen t f)
   does-after t f d e =
       record {

@@ -7,14 +7,14 @@ use Rattle.paper.specs.declared.Span.{Span}
 use Rattle.paper.specs.declared.View.{View}
 use Rattle.paper.specs.Strokes.{applyAll, markAll}
 use Rattle.paper.specs.Moves.{Moved}
-use Rattle.moves.specs.declared.Pen.{Pen}
+use Rattle.moves.specs.declared.Spot.{Spot}
 
 -- from spans and memory before: the view that the move gives, the spans grown by its strokes, the memory written by them
-pub record Does (g : Geometry) (ps : List Span) (m : List ℕ) (p : Pen) (m′ : List ℕ) (t : Moved) : Type 0 where
+pub record Does (g : Geometry) (ps : List Span) (m : List ℕ) (p : Spot) (m′ : List ℕ) (t : Moved) : Type 0 where
   pub view : p .view ≡ t .view
   pub spans : p .spans ≡ markAll ps (t .strokes)
   pub mem : m′ ≡ applyAll g m (t .strokes)
 
--- a pen by its parts
-abbrev pub pen : View → List Span → Pen
-pen v ps = record { view = v; spans = ps }
+-- a spot by its parts
+abbrev pub spot : View → List Span → Spot
+spot v ps = record { view = v; spans = ps }

@@ -10,10 +10,10 @@ ghost use Rattle.paper.specs.Cells.{upStroke};
 ghost use Rattle.paper.specs.Moves.{to, roomBelow, writing, nextLine, nextLineUp, pushLeft, htOf, backOf, lineDown, lineDownUp, lineFeedOf, clearOf};
 ghost use Rattle.laws_memory.specs.Rectangles.{Fits};
 ghost use Rattle.laws_state.specs.Room.{Usable, InMemory, Room};
-ghost use Rattle.moves.specs.Does.{Does, pen};
+ghost use Rattle.moves.specs.Does.{Does, spot};
 
 // What a move works on and gives back: the range with the cursor in it, and both rows' spans.
-pub struct Pen {
+pub struct Spot {
     pub view: View,
     pub spans: [Span; 2],
 }
@@ -27,12 +27,12 @@ pub fn to(v: View, x: usize, y: usize) -> View
     View { x, y, ..v }
 }
 
-// The pen with its cursor at (x, y); nothing is written.
-fn place(p: Pen, x: usize, y: usize) -> Pen
-    ensures { λ r. ⌜ r ≡ pen (to (p .view) x y) (p .spans) ⌝ }
+// The spot with its cursor at (x, y); nothing is written.
+fn place(p: Spot, x: usize, y: usize) -> Spot
+    ensures { λ r. ⌜ r ≡ spot (to (p .view) x y) (p .spans) ⌝ }
 {
     let v = p.view;
-    Pen {
+    Spot {
         view: to(v, x, y),
         ..p
     }
@@ -71,21 +71,21 @@ fn next_line(v: View, l: usize) -> View
 }
 
 // The range moves up l rows, and all of it is written; the cursor stays.
-fn scroll(g: Geometry, mem: &mut [u8], p: Pen, l: usize) -> Pen
+fn scroll(g: Geometry, mem: &mut [u8], p: Spot, l: usize) -> Spot
     requires { ⌜ Usable g × (InMemory g (p .view) × Fits g (now mem)) ⌝ }
     ensures { λ r. ⌜ Does g (p .spans) (now (mem .entry)) r (now (mem .exit)) (writing (upStroke g (p .view) l) (p .view)) ⌝ }
 {
     let v = p.view;
     dots::scroll_up(g, mem, v.left, v.top, v.width, v.height, l);
     let before = p.spans;
-    Pen {
+    Spot {
         view: v,
         spans: dots::mark(before, v.left, v.top, v.width, v.height),
     }
 }
 
 // The next line of cells; without room the range scrolls up.
-fn next_line_up(g: Geometry, mem: &mut [u8], p: Pen, l: usize) -> Pen
+fn next_line_up(g: Geometry, mem: &mut [u8], p: Spot, l: usize) -> Spot
     requires { ⌜ Usable g × (InMemory g (p .view) × ((l ≤ p .view .height) × Fits g (now mem))) ⌝ }
     ensures { λ r. ⌜ Does g (p .spans) (now (mem .entry)) r (now (mem .exit)) (nextLineUp g (p .view) l) ⌝ }
 {
@@ -100,7 +100,7 @@ fn next_line_up(g: Geometry, mem: &mut [u8], p: Pen, l: usize) -> Pen
 }
 
 // The cursor's rows move left until a cell fits at the right end.
-fn push_left(g: Geometry, mem: &mut [u8], p: Pen, c: usize, l: usize) -> Pen
+fn push_left(g: Geometry, mem: &mut [u8], p: Spot, c: usize, l: usize) -> Spot
     requires { ⌜ Usable g × (Room g (p .view) c l × ((p .view .width < p .view .x + 2 * c) × Fits g (now mem))) ⌝ }
     ensures { λ r. ⌜ Does g (p .spans) (now (mem .entry)) r (now (mem .exit)) (pushLeft g (p .view) c l) ⌝ }
 {
@@ -112,14 +112,14 @@ fn push_left(g: Geometry, mem: &mut [u8], p: Pen, c: usize, l: usize) -> Pen
     let height = dots::least(l, v.height - y);
     dots::move_left(g, mem, v.left, top, width, height, x + 2 * c - width);
     let before = p.spans;
-    Pen {
+    Spot {
         view: to(v, width - c, y),
         spans: dots::mark(before, v.left, top, width, height),
     }
 }
 
 // HT.
-pub fn tab(g: Geometry, mem: &mut [u8], p: Pen, c: usize, l: usize) -> Pen
+pub fn tab(g: Geometry, mem: &mut [u8], p: Spot, c: usize, l: usize) -> Spot
     requires { ⌜ Usable g × (Room g (p .view) c l × Fits g (now mem)) ⌝ }
     ensures { λ r. ⌜ Does g (p .spans) (now (mem .entry)) r (now (mem .exit)) (htOf g (p .view) c l) ⌝ }
 {
@@ -132,7 +132,7 @@ pub fn tab(g: Geometry, mem: &mut [u8], p: Pen, c: usize, l: usize) -> Pen
         return place(p, x + c, y);
     }
     if mode == 1 {
-        return Pen {
+        return Spot {
             view: next_line(v, l),
             ..p
         };
@@ -164,7 +164,7 @@ pub fn back(v: View, c: usize, l: usize) -> View
 }
 
 // The line of cells below; without room the range scrolls up under the cursor.
-fn line_down_up(g: Geometry, mem: &mut [u8], p: Pen, l: usize) -> Pen
+fn line_down_up(g: Geometry, mem: &mut [u8], p: Spot, l: usize) -> Spot
     requires { ⌜ Usable g × (InMemory g (p .view) × ((l ≤ p .view .height) × Fits g (now mem))) ⌝ }
     ensures { λ r. ⌜ Does g (p .spans) (now (mem .entry)) r (now (mem .exit)) (lineDownUp g (p .view) l) ⌝ }
 {
@@ -178,14 +178,14 @@ fn line_down_up(g: Geometry, mem: &mut [u8], p: Pen, l: usize) -> Pen
 }
 
 // LF.
-pub fn line_feed(g: Geometry, mem: &mut [u8], p: Pen, l: usize) -> Pen
+pub fn line_feed(g: Geometry, mem: &mut [u8], p: Spot, l: usize) -> Spot
     requires { ⌜ Usable g × (InMemory g (p .view) × ((l ≤ p .view .height) × Fits g (now mem))) ⌝ }
     ensures { λ r. ⌜ Does g (p .spans) (now (mem .entry)) r (now (mem .exit)) (lineFeedOf g (p .view) l) ⌝ }
 {
     let v = p.view;
     let mode = v.mode;
     if mode == 1 {
-        return Pen {
+        return Spot {
             view: line_down(v, l),
             ..p
         };
@@ -197,14 +197,14 @@ pub fn line_feed(g: Geometry, mem: &mut [u8], p: Pen, l: usize) -> Pen
 }
 
 // CLR.
-pub fn clear(g: Geometry, mem: &mut [u8], p: Pen) -> Pen
+pub fn clear(g: Geometry, mem: &mut [u8], p: Spot) -> Spot
     requires { ⌜ Usable g × (InMemory g (p .view) × Fits g (now mem)) ⌝ }
     ensures { λ r. ⌜ Does g (p .spans) (now (mem .entry)) r (now (mem .exit)) (clearOf (p .view)) ⌝ }
 {
     let v = p.view;
     dots::clear(g, mem, v.left, v.top, v.width, v.height);
     let before = p.spans;
-    Pen {
+    Spot {
         view: to(v, 0, 0),
         spans: dots::mark(before, v.left, v.top, v.width, v.height),
     }

@@ -89,7 +89,7 @@ fn apart(s: State) -> State
             let again = Settings {
                 charset: settings.charset,
                 codes: settings.codes,
-                shown: settings.shown,
+                caret: settings.caret,
                 brightness: settings.brightness,
                 speed: settings.speed,
                 width: settings.width,

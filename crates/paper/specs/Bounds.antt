@@ -9,11 +9,11 @@ use Rattle.paper.specs.declared.Settings.{Settings}
 use Rattle.paper.specs.declared.Cursor.{Cursor}
 use Rattle.paper.specs.declared.Window.{Window}
 use Rattle.paper.specs.declared.Span.{Span}
-use Rattle.paper.specs.declared.Key.the-variants.{Charset, Codes, Shown, Brightness, Reverse, Speed, Mixing, Width, Write}
+use Rattle.paper.specs.declared.Key.the-variants.{Charset, Codes, Caret, Brightness, Reverse, Speed, Mixing, Width, Write}
 use Rattle.paper.specs.declared.Word.{Word}
 use Rattle.paper.specs.declared.Word.the-variants.{CursorX, CursorY, WindowLeft, WindowTop, WindowWidth, WindowHeight, ImageWidth, ImageHeight}
 use Rattle.paper.specs.declared.Half.{Half}
-use Rattle.paper.specs.declared.Half.the-variants.{Nothing, Escape, Unit, Group, Actions, Pictures, Characters, Windows, Value, Rest, DefineA, DefineFrom, DefineTo, GlyphWidth, GlyphByte, Low, High, ImageKind, ImageData, EnlargeX, EnlargeY, SelectA, WindowA, WindowB}
+use Rattle.paper.specs.declared.Half.the-variants.{Nothing, Escape, Unit, Group, Actions, Images, Characters, Windows, Value, Rest, DownloadA, DownloadFrom, DownloadTo, GlyphWidth, GlyphByte, Low, High, ImageKind, ImageData, EnlargeX, EnlargeY, SelectA, WindowA, WindowB}
 use Rattle.paper.specs.declared.Hold.{Hold}
 use Rattle.paper.specs.declared.Hold.the-variants.{Free, Held}
 use Rattle.paper.specs.declared.State.{State}
@@ -25,7 +25,7 @@ unfoldable pub settingsOk : Settings → Bool
 settingsOk v =
     inDomain Charset (v .charset)
     && (inDomain Codes (v .codes)
-    && (inDomain Shown (v .shown)
+    && (inDomain Caret (v .caret)
     && (inDomain Brightness (v .brightness)
     && (inDomain Speed (v .speed)
     && (inDomain Width (v .width)
@@ -90,14 +90,14 @@ halfOk g Escape = true
 halfOk g Unit = true
 halfOk g Group = true
 halfOk g Actions = true
-halfOk g Pictures = true
+halfOk g Images = true
 halfOk g Characters = true
 halfOk g Windows = true
 halfOk g (Value key) = true
 halfOk g (Rest left) = between 1 5 left
-halfOk g DefineA = true
-halfOk g DefineFrom = true
-halfOk g (DefineTo from) = leb 0x20 from
+halfOk g DownloadA = true
+halfOk g DownloadFrom = true
+halfOk g (DownloadTo from) = leb 0x20 from
 halfOk g (GlyphWidth code last) = leb 0x20 code && leb code last
 halfOk g (GlyphByte code last left) = leb 0x20 code && (leb code last && between 1 7 left)
 halfOk g (Low w) = wordOk g w

@@ -8,12 +8,12 @@ use Rattle.paper.specs.declared.Geometry.{Geometry}
 use Rattle.paper.specs.declared.Style.{Style}
 use Rattle.paper.specs.declared.View.{View}
 use Rattle.paper.specs.declared.Key.{Key}
-use Rattle.paper.specs.declared.Key.the-variants.{Charset, Codes, Shown, Brightness, Reverse, Speed, Mixing, Width, Write}
+use Rattle.paper.specs.declared.Key.the-variants.{Charset, Codes, Caret, Brightness, Reverse, Speed, Mixing, Width, Write}
 use Rattle.paper.specs.declared.Half.the-variants.{Nothing}
 use Rattle.paper.specs.declared.Command.{Command}
 use Rattle.paper.specs.declared.Command.the-variants.{Character, Back, Tab, LineFeed, Home, Clear, Return, Select, Initialise, Mode, Set, Enlarge, CursorSet, Define, Cancel, Uncarried}
 use Rattle.paper.specs.declared.Reading.{Reading}
-use Rattle.paper.specs.declared.Reading.the-variants.{More, Whole, Picture, PictureEnd, Cancels, UnknownCode}
+use Rattle.paper.specs.declared.Reading.the-variants.{More, Whole, ImageByte, ImageEnd, Cancels, UnknownCode}
 use Rattle.paper.specs.declared.Outcome.{Outcome}
 use Rattle.paper.specs.declared.Outcome.the-variants.{Unfinished, Carried, OutOfDomain, Cancelled, Unknown, NotCarried, WindowHeld, TooLarge, NotDefined}
 use Rattle.paper.specs.declared.Hold.{Hold}
@@ -39,7 +39,7 @@ means s o ss = record { state = s; outcome = o; strokes = ss }
 unfoldable pub notCarriedValue : Key → ℕ → Bool
 notCarriedValue Charset n = false
 notCarriedValue Codes n = false
-notCarriedValue Shown n = false
+notCarriedValue Caret n = false
 notCarriedValue Brightness n = false
 notCarriedValue Reverse n = false
 notCarriedValue Speed n = false
@@ -75,7 +75,7 @@ isHeld (Held k back v) = true
 unfoldable pub isWrite : Key → Bool
 isWrite Charset = false
 isWrite Codes = false
-isWrite Shown = false
+isWrite Caret = false
 isWrite Brightness = false
 isWrite Reverse = false
 isWrite Speed = false
@@ -226,8 +226,8 @@ imageStrokes v y column row b =
 unfoldable pub takeOf : Geometry → List ℕ → State → Reading → Meaning
 takeOf g font s (More p) = means (withHalf s p) Unfinished []
 takeOf g font s (Whole c) = commandOf g font (withHalf s Nothing) c
-takeOf g font s (Picture column row b next) = means (withHalf s next) Unfinished (imageStrokes (viewOf g s) (s .settings .style) column row b)
-takeOf g font s (PictureEnd column row b) = means (withHalf s Nothing) Carried (imageStrokes (viewOf g s) (s .settings .style) column row b)
+takeOf g font s (ImageByte column row b next) = means (withHalf s next) Unfinished (imageStrokes (viewOf g s) (s .settings .style) column row b)
+takeOf g font s (ImageEnd column row b) = means (withHalf s Nothing) Carried (imageStrokes (viewOf g s) (s .settings .style) column row b)
 takeOf g font s Cancels = answers (withHalf s Nothing) Cancelled
 takeOf g font s UnknownCode = answers (withHalf s Nothing) Unknown
 

@@ -4,14 +4,14 @@ use Prim.Native.Nat.{ℕ, _+_, _*_, _-_}
 use mathlib.Core.Bool.{Bool, cond, _&&_, _||_}
 use lib.Dec.{leb, ltb, eqb}
 use Rattle.paper.specs.declared.Geometry.{Geometry}
-use Rattle.paper.specs.declared.Key.the-variants.{Charset, Codes, Shown, Brightness, Reverse, Speed, Mixing, Width, Write}
+use Rattle.paper.specs.declared.Key.the-variants.{Charset, Codes, Caret, Brightness, Reverse, Speed, Mixing, Width, Write}
 use Rattle.paper.specs.declared.Word.{Word}
 use Rattle.paper.specs.declared.Word.the-variants.{CursorX, CursorY, WindowLeft, WindowTop, WindowWidth, WindowHeight, ImageWidth, ImageHeight}
 use Rattle.paper.specs.declared.Half.{Half}
-use Rattle.paper.specs.declared.Half.the-variants.{Nothing, Escape, Unit, Group, Actions, Pictures, Characters, Windows, Value, Rest, DefineA, DefineFrom, DefineTo, GlyphWidth, GlyphByte, Low, High, ImageKind, ImageData, EnlargeX, EnlargeY, SelectA, WindowA, WindowB}
+use Rattle.paper.specs.declared.Half.the-variants.{Nothing, Escape, Unit, Group, Actions, Images, Characters, Windows, Value, Rest, DownloadA, DownloadFrom, DownloadTo, GlyphWidth, GlyphByte, Low, High, ImageKind, ImageData, EnlargeX, EnlargeY, SelectA, WindowA, WindowB}
 use Rattle.paper.specs.declared.Command.the-variants.{Character, Back, Tab, LineFeed, Home, Clear, Return, Select, Initialise, Mode, Set, Enlarge, CursorSet, Define, Cancel, Uncarried}
 use Rattle.paper.specs.declared.Reading.{Reading}
-use Rattle.paper.specs.declared.Reading.the-variants.{More, Whole, Picture, PictureEnd, Cancels, UnknownCode}
+use Rattle.paper.specs.declared.Reading.the-variants.{More, Whole, ImageByte, ImageEnd, Cancels, UnknownCode}
 
 -- lo ≤ n ≤ hi
 abbrev pub between : ℕ → ℕ → ℕ → Bool
@@ -48,7 +48,7 @@ readEscape b =
     (cond (eqb b 0x74) (More (Value Codes))
     (cond (eqb b 0x25) (More (Rest 1))
     (cond (eqb b 0x3F) (More (Rest 2))
-    (cond (eqb b 0x26) (More DefineA) UnknownCode)))))
+    (cond (eqb b 0x26) (More DownloadA) UnknownCode)))))
 
 -- "1Fh: 01h, 02h, 03h set MD1, MD2, MD3; 24h x16 y16; 43h n; 58h n; 72h n; 73h n; 77h n", and 28h, which opens the groups below
 unfoldable pub readUnit : ℕ → Reading
@@ -56,7 +56,7 @@ readUnit b =
     cond (between 0x01 0x03 b) (Whole (Mode b))
     (cond (eqb b 0x24) (More (Low CursorX))
     (cond (eqb b 0x28) (More Group)
-    (cond (eqb b 0x43) (More (Value Shown))
+    (cond (eqb b 0x43) (More (Value Caret))
     (cond (eqb b 0x58) (More (Value Brightness))
     (cond (eqb b 0x72) (More (Value Reverse))
     (cond (eqb b 0x73) (More (Value Speed))
@@ -66,7 +66,7 @@ readUnit b =
 unfoldable pub readGroup : ℕ → Reading
 readGroup b =
     cond (eqb b 0x61) (More Actions)
-    (cond (eqb b 0x66) (More Pictures)
+    (cond (eqb b 0x66) (More Images)
     (cond (eqb b 0x67) (More Characters)
     (cond (eqb b 0x77) (More Windows) UnknownCode)))
 
@@ -79,8 +79,8 @@ readActions b =
     (cond (eqb b 0x40) (More (Rest 1)) UnknownCode)))
 
 -- "1Fh 28h 66h 11h: image"
-unfoldable pub readPictures : ℕ → Reading
-readPictures b = cond (eqb b 0x11) (More (Low ImageWidth)) UnknownCode
+unfoldable pub readImages : ℕ → Reading
+readImages b = cond (eqb b 0x11) (More (Low ImageWidth)) UnknownCode
 
 -- "1Fh 28h 67h: 03h w; 40h x y"
 unfoldable pub readCharacters : ℕ → Reading
@@ -126,9 +126,9 @@ readWord g (ImageHeight width) n = moreIf (between 1 (g .rows) n) (ImageKind wid
 -- "then x·y bytes, column by column, top first"
 unfoldable pub readImage : ℕ → ℕ → ℕ → ℕ → ℕ → Reading
 readImage width height column row b =
-    cond (ltb (row + 1) height) (Picture column row b (ImageData width height column (row + 1)))
-    (cond (ltb (column + 1) width) (Picture column row b (ImageData width height (column + 1) 0))
-    (PictureEnd column row b))
+    cond (ltb (row + 1) height) (ImageByte column row b (ImageData width height column (row + 1)))
+    (cond (ltb (column + 1) width) (ImageByte column row b (ImageData width height (column + 1) 0))
+    (ImageEnd column row b))
 
 -- every half-read command
 unfoldable pub readOf : Geometry → Half → ℕ → Reading
@@ -137,14 +137,14 @@ readOf g Escape b = readEscape b
 readOf g Unit b = readUnit b
 readOf g Group b = readGroup b
 readOf g Actions b = readActions b
-readOf g Pictures b = readPictures b
+readOf g Images b = readImages b
 readOf g Characters b = readCharacters b
 readOf g Windows b = readWindows b
 readOf g (Value key) b = Whole (Set key b)
 readOf g (Rest left) b = readRest left
-readOf g DefineA b = moreIf (eqb b 1) DefineFrom
-readOf g DefineFrom b = moreIf (leb 0x20 b) (DefineTo b)
-readOf g (DefineTo from) b = moreIf (leb from b) (GlyphWidth from b)
+readOf g DownloadA b = moreIf (eqb b 1) DownloadFrom
+readOf g DownloadFrom b = moreIf (leb 0x20 b) (DownloadTo b)
+readOf g (DownloadTo from) b = moreIf (leb from b) (GlyphWidth from b)
 readOf g (GlyphWidth code last) b = moreIf (eqb b 5 || eqb b 7) (GlyphByte code last b)
 readOf g (GlyphByte code last left) b = readGlyphByte code last left
 readOf g (Low w) b = More (High w b)

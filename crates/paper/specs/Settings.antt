@@ -13,7 +13,7 @@ use Rattle.paper.specs.declared.Window.{Window}
 use Rattle.paper.specs.declared.Span.{Span}
 use Rattle.paper.specs.declared.View.{View}
 use Rattle.paper.specs.declared.Key.{Key}
-use Rattle.paper.specs.declared.Key.the-variants.{Charset, Codes, Shown, Brightness, Reverse, Speed, Mixing, Width, Write}
+use Rattle.paper.specs.declared.Key.the-variants.{Charset, Codes, Caret, Brightness, Reverse, Speed, Mixing, Width, Write}
 use Rattle.paper.specs.declared.Half.{Half}
 use Rattle.paper.specs.declared.Half.the-variants.{Nothing}
 use Rattle.paper.specs.declared.Hold.{Hold}
@@ -30,7 +30,7 @@ initialStyle = record { reverse = 0; mixing = 0; across = 1; down = 1 }
 
 unfoldable pub initialSettings : Settings
 initialSettings =
-    record { charset = 0; codes = 0; shown = 0; brightness = 8; speed = 0; width = 1; write = 0; style = initialStyle }
+    record { charset = 0; codes = 0; caret = 0; brightness = 8; speed = 0; width = 1; write = 0; style = initialStyle }
 
 -- a cursor at the window's top left, in MD1
 unfoldable pub topLeft : Cursor
@@ -146,7 +146,7 @@ withSpans s ps =
 unfoldable pub inDomain : Key → ℕ → Bool
 inDomain Charset n = leb n 13
 inDomain Codes n = leb n 5 || between 16 19 n
-inDomain Shown n = leb n 1
+inDomain Caret n = leb n 1
 inDomain Brightness n = between 1 8 n
 inDomain Reverse n = leb n 1
 inDomain Speed n = leb n 31
@@ -163,7 +163,7 @@ withStyle v y =
     record {
       charset = v .charset;
       codes = v .codes;
-      shown = v .shown;
+      caret = v .caret;
       brightness = v .brightness;
       speed = v .speed;
       width = v .width;
@@ -181,7 +181,7 @@ withSetting v Charset n =
     record {
       charset = n;
       codes = v .codes;
-      shown = v .shown;
+      caret = v .caret;
       brightness = v .brightness;
       speed = v .speed;
       width = v .width;
@@ -192,18 +192,18 @@ withSetting v Codes n =
     record {
       charset = v .charset;
       codes = n;
-      shown = v .shown;
+      caret = v .caret;
       brightness = v .brightness;
       speed = v .speed;
       width = v .width;
       write = v .write;
       style = v .style;
     }
-withSetting v Shown n =
+withSetting v Caret n =
     record {
       charset = v .charset;
       codes = v .codes;
-      shown = n;
+      caret = n;
       brightness = v .brightness;
       speed = v .speed;
       width = v .width;
@@ -214,7 +214,7 @@ withSetting v Brightness n =
     record {
       charset = v .charset;
       codes = v .codes;
-      shown = v .shown;
+      caret = v .caret;
       brightness = n;
       speed = v .speed;
       width = v .width;
@@ -228,7 +228,7 @@ withSetting v Speed n =
     record {
       charset = v .charset;
       codes = v .codes;
-      shown = v .shown;
+      caret = v .caret;
       brightness = v .brightness;
       speed = n;
       width = v .width;
@@ -242,7 +242,7 @@ withSetting v Width n =
     record {
       charset = v .charset;
       codes = v .codes;
-      shown = v .shown;
+      caret = v .caret;
       brightness = v .brightness;
       speed = v .speed;
       width = n;
@@ -253,7 +253,7 @@ withSetting v Write n =
     record {
       charset = v .charset;
       codes = v .codes;
-      shown = v .shown;
+      caret = v .caret;
       brightness = v .brightness;
       speed = v .speed;
       width = v .width;

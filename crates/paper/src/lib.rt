@@ -16,11 +16,11 @@ pub struct Style {
     pub down: u8,
 }
 
-// The common settings, each named after its use; `charset`, `codes`, `shown`, `brightness` and `speed` are kept only.
+// The common settings, each named after its use; `charset`, `codes`, `caret`, `brightness` and `speed` are kept only.
 pub struct Settings {
     pub charset: u8,
     pub codes: u8,
-    pub shown: u8,
+    pub caret: u8,
     pub brightness: u8,
     pub speed: u8,
     pub width: u8,
@@ -68,7 +68,7 @@ pub enum Key {
     // 1Bh 74h
     Codes,
     // 1Fh 43h
-    Shown,
+    Caret,
     // 1Fh 58h
     Brightness,
     // 1Fh 72h
@@ -126,7 +126,7 @@ pub enum Half {
     // after 1Fh 28h 61h
     Actions,
     // after 1Fh 28h 66h
-    Pictures,
+    Images,
     // after 1Fh 28h 67h
     Characters,
     // after 1Fh 28h 77h
@@ -138,9 +138,9 @@ pub enum Half {
         left: u8,
     },
     // the define's a, its c1, its c2; then the width of `code`, or one of its `left` bytes
-    DefineA,
-    DefineFrom,
-    DefineTo {
+    DownloadA,
+    DownloadFrom,
+    DownloadTo {
         from: u8,
     },
     GlyphWidth {
@@ -225,13 +225,13 @@ pub enum Reading {
     // the command is whole
     Whole(Command),
     // a byte of an image, its place there, and what is half read after it; and an image's last byte
-    Picture {
+    ImageByte {
         column: u16,
         row: u16,
         byte: u8,
         next: Half,
     },
-    PictureEnd {
+    ImageEnd {
         column: u16,
         row: u16,
         byte: u8,

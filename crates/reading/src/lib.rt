@@ -2,7 +2,7 @@
 // There is no state and no memory here: a command that is whole, an image byte with its place, or what is awaited next.
 // It uses the paper alone. `read` is its one call; each function above it decides one place in a command.
 ghost use mathlib.Core.Path.{_≡_};
-ghost use Rattle.paper.specs.Reading.{between, moreIf, readMove, readFirst, readEscape, readUnit, readGroup, readActions, readPictures, readCharacters, readWindows, readRest, readGlyphByte, readWindowB, word16, readWord, readImage, readOf};
+ghost use Rattle.paper.specs.Reading.{between, moreIf, readMove, readFirst, readEscape, readUnit, readGroup, readActions, readImages, readCharacters, readWindows, readRest, readGlyphByte, readWindowB, word16, readWord, readImage, readOf};
 use paper::Command;
 use paper::Geometry;
 use paper::Half;
@@ -93,7 +93,7 @@ fn read_escape(b: u8) -> Reading
         0x74 => more_value(Key::Codes),
         0x25 => more_rest(1),
         0x3F => more_rest(2),
-        0x26 => Reading::More(Half::DefineA),
+        0x26 => Reading::More(Half::DownloadA),
         _ => Reading::UnknownCode,
     }
 }
@@ -106,7 +106,7 @@ fn read_unit(b: u8) -> Reading
         0x01..=0x03 => Reading::Whole(Command::Mode(b)),
         0x24 => more_word(Word::CursorX),
         0x28 => Reading::More(Half::Group),
-        0x43 => more_value(Key::Shown),
+        0x43 => more_value(Key::Caret),
         0x58 => more_value(Key::Brightness),
         0x72 => more_value(Key::Reverse),
         0x73 => more_value(Key::Speed),
@@ -121,7 +121,7 @@ fn read_group(b: u8) -> Reading
 {
     match b {
         0x61 => Reading::More(Half::Actions),
-        0x66 => Reading::More(Half::Pictures),
+        0x66 => Reading::More(Half::Images),
         0x67 => Reading::More(Half::Characters),
         0x77 => Reading::More(Half::Windows),
         _ => Reading::UnknownCode,
@@ -142,8 +142,8 @@ fn read_actions(b: u8) -> Reading
 }
 
 // After 1Fh 28h 66h.
-fn read_pictures(b: u8) -> Reading
-    ensures { λ r. ⌜ r ≡ readPictures b ⌝ }
+fn read_images(b: u8) -> Reading
+    ensures { λ r. ⌜ r ≡ readImages b ⌝ }
 {
     match b {
         0x11 => more_word(Word::ImageWidth),
@@ -257,7 +257,7 @@ fn read_image(width: u16, height: u16, column: u16, row: u16, b: u8) -> Reading
     ensures { λ r. ⌜ r ≡ readImage width height column row b ⌝ }
 {
     if (row as usize) + 1 < (height as usize) {
-        return Reading::Picture {
+        return Reading::ImageByte {
             column,
             row,
             byte: b,
@@ -270,7 +270,7 @@ fn read_image(width: u16, height: u16, column: u16, row: u16, b: u8) -> Reading
         };
     }
     if (column as usize) + 1 < (width as usize) {
-        return Reading::Picture {
+        return Reading::ImageByte {
             column,
             row,
             byte: b,
@@ -282,7 +282,7 @@ fn read_image(width: u16, height: u16, column: u16, row: u16, b: u8) -> Reading
             },
         };
     }
-    Reading::PictureEnd {
+    Reading::ImageEnd {
         column,
         row,
         byte: b,
@@ -299,14 +299,14 @@ pub fn read(g: Geometry, half: Half, b: u8) -> Reading
         Half::Unit => read_unit(b),
         Half::Group => read_group(b),
         Half::Actions => read_actions(b),
-        Half::Pictures => read_pictures(b),
+        Half::Images => read_images(b),
         Half::Characters => read_characters(b),
         Half::Windows => read_windows(b),
         Half::Value(key) => Reading::Whole(Command::Set { key, value: b }),
         Half::Rest { left } => read_rest(left),
-        Half::DefineA => more_if(b == 1, Half::DefineFrom),
-        Half::DefineFrom => more_if(0x20 <= b, Half::DefineTo { from: b }),
-        Half::DefineTo { from } => more_if(
+        Half::DownloadA => more_if(b == 1, Half::DownloadFrom),
+        Half::DownloadFrom => more_if(0x20 <= b, Half::DownloadTo { from: b }),
+        Half::DownloadTo { from } => more_if(
             from <= b,
             Half::GlyphWidth {
                 code: from,

@@ -2,18 +2,18 @@
 use Prim.Native.Nat.{ℕ}
 use mathlib.Core.Path.{_≡_, refl, ap}
 use Rattle.paper.specs.declared.Key.{Key}
-use Rattle.paper.specs.declared.Key.the-variants.{Charset, Codes, Shown, Brightness, Reverse, Speed, Mixing, Width, Write}
+use Rattle.paper.specs.declared.Key.the-variants.{Charset, Codes, Caret, Brightness, Reverse, Speed, Mixing, Width, Write}
 use Rattle.paper.specs.declared.Word.{Word}
 use Rattle.paper.specs.declared.Word.the-variants.{CursorX, CursorY, WindowLeft, WindowTop, WindowWidth, WindowHeight, ImageWidth, ImageHeight}
 use Rattle.paper.specs.declared.Half.{Half}
-use Rattle.paper.specs.declared.Half.the-variants.{Nothing, Escape, Unit, Group, Actions, Pictures, Characters, Windows, Value, Rest, DefineA, DefineFrom, DefineTo, GlyphWidth, GlyphByte, Low, High, ImageKind, ImageData, EnlargeX, EnlargeY, SelectA, WindowA, WindowB}
+use Rattle.paper.specs.declared.Half.the-variants.{Nothing, Escape, Unit, Group, Actions, Images, Characters, Windows, Value, Rest, DownloadA, DownloadFrom, DownloadTo, GlyphWidth, GlyphByte, Low, High, ImageKind, ImageData, EnlargeX, EnlargeY, SelectA, WindowA, WindowB}
 use Rattle.record_half.specs.Slots.{keyNumber, keyOf, wordSlots, wordOf, halfSlots, halfOf}
 
 key-back : (k : Key) → keyOf (keyNumber k) ≡ k
 unfolding keyOf keyNumber
 key-back Charset = refl
 key-back Codes = refl
-key-back Shown = refl
+key-back Caret = refl
 key-back Brightness = refl
 key-back Reverse = refl
 key-back Speed = refl
@@ -51,14 +51,14 @@ half-back Escape = refl
 half-back Unit = refl
 half-back Group = refl
 half-back Actions = refl
-half-back Pictures = refl
+half-back Images = refl
 half-back Characters = refl
 half-back Windows = refl
 half-back (Value key) = ap Value (key-back key)
 half-back (Rest left) = refl
-half-back DefineA = refl
-half-back DefineFrom = refl
-half-back (DefineTo from) = refl
+half-back DownloadA = refl
+half-back DownloadFrom = refl
+half-back (DownloadTo from) = refl
 half-back (GlyphWidth code last) = refl
 half-back (GlyphByte code last left) = refl
 half-back (Low word) = low-back word

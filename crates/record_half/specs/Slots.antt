@@ -4,11 +4,11 @@ use Prim.Native.Nat.{ℕ}
 use mathlib.Core.Bool.{cond}
 use lib.Dec.{eqb}
 use Rattle.paper.specs.declared.Key.{Key}
-use Rattle.paper.specs.declared.Key.the-variants.{Charset, Codes, Shown, Brightness, Reverse, Speed, Mixing, Width, Write}
+use Rattle.paper.specs.declared.Key.the-variants.{Charset, Codes, Caret, Brightness, Reverse, Speed, Mixing, Width, Write}
 use Rattle.paper.specs.declared.Word.{Word}
 use Rattle.paper.specs.declared.Word.the-variants.{CursorX, CursorY, WindowLeft, WindowTop, WindowWidth, WindowHeight, ImageWidth, ImageHeight}
 use Rattle.paper.specs.declared.Half.{Half}
-use Rattle.paper.specs.declared.Half.the-variants.{Nothing, Escape, Unit, Group, Actions, Pictures, Characters, Windows, Value, Rest, DefineA, DefineFrom, DefineTo, GlyphWidth, GlyphByte, Low, High, ImageKind, ImageData, EnlargeX, EnlargeY, SelectA, WindowA, WindowB}
+use Rattle.paper.specs.declared.Half.the-variants.{Nothing, Escape, Unit, Group, Actions, Images, Characters, Windows, Value, Rest, DownloadA, DownloadFrom, DownloadTo, GlyphWidth, GlyphByte, Low, High, ImageKind, ImageData, EnlargeX, EnlargeY, SelectA, WindowA, WindowB}
 use Rattle.record_half.specs.declared.Slots.{Slots}
 
 abbrev pub slots : ℕ → ℕ → ℕ → ℕ → ℕ → ℕ → ℕ → ℕ → Slots
@@ -26,7 +26,7 @@ bytes n a b c = slots n a b c 0 0 0 0
 unfoldable pub keyNumber : Key → ℕ
 keyNumber Charset = 0
 keyNumber Codes = 1
-keyNumber Shown = 2
+keyNumber Caret = 2
 keyNumber Brightness = 3
 keyNumber Reverse = 4
 keyNumber Speed = 5
@@ -37,7 +37,7 @@ keyNumber Write = 8
 unfoldable pub keyOf : ℕ → Key
 keyOf n =
     cond (eqb n 1) Codes
-    (cond (eqb n 2) Shown
+    (cond (eqb n 2) Caret
     (cond (eqb n 3) Brightness
     (cond (eqb n 4) Reverse
     (cond (eqb n 5) Speed (cond (eqb n 6) Mixing (cond (eqb n 7) Width (cond (eqb n 8) Write Charset)))))))
@@ -71,14 +71,14 @@ halfSlots Escape = bare 1
 halfSlots Unit = bare 2
 halfSlots Group = bare 3
 halfSlots Actions = bare 4
-halfSlots Pictures = bare 5
+halfSlots Images = bare 5
 halfSlots Characters = bare 6
 halfSlots Windows = bare 7
 halfSlots (Value key) = bytes 8 (keyNumber key) 0 0
 halfSlots (Rest left) = bytes 9 left 0 0
-halfSlots DefineA = bare 10
-halfSlots DefineFrom = bare 11
-halfSlots (DefineTo from) = bytes 12 from 0 0
+halfSlots DownloadA = bare 10
+halfSlots DownloadFrom = bare 11
+halfSlots (DownloadTo from) = bytes 12 from 0 0
 halfSlots (GlyphWidth code last) = bytes 13 code last 0
 halfSlots (GlyphByte code last left) = bytes 14 code last left
 halfSlots (Low word) = wordSlots 15 0 word
@@ -98,14 +98,14 @@ halfOf t =
     (cond (eqb (t .case) 2) Unit
     (cond (eqb (t .case) 3) Group
     (cond (eqb (t .case) 4) Actions
-    (cond (eqb (t .case) 5) Pictures
+    (cond (eqb (t .case) 5) Images
     (cond (eqb (t .case) 6) Characters
     (cond (eqb (t .case) 7) Windows
     (cond (eqb (t .case) 8) (Value (keyOf (t .a)))
     (cond (eqb (t .case) 9) (Rest (t .a))
-    (cond (eqb (t .case) 10) DefineA
-    (cond (eqb (t .case) 11) DefineFrom
-    (cond (eqb (t .case) 12) (DefineTo (t .a))
+    (cond (eqb (t .case) 10) DownloadA
+    (cond (eqb (t .case) 11) DownloadFrom
+    (cond (eqb (t .case) 12) (DownloadTo (t .a))
     (cond (eqb (t .case) 13) (GlyphWidth (t .a) (t .b))
     (cond (eqb (t .case) 14) (GlyphByte (t .a) (t .b) (t .c))
     (cond (eqb (t .case) 15) (Low (wordOf (t .a) (t .b) (t .p) (t .q) (t .r)))

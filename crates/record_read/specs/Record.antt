@@ -29,7 +29,7 @@ settingsAt l i =
     record {
       charset = getD l i 0;
       codes = getD l (i + 1) 0;
-      shown = getD l (i + 2) 0;
+      caret = getD l (i + 2) 0;
       brightness = getD l (i + 3) 0;
       speed = getD l (i + 4) 0;
       width = getD l (i + 5) 0;

@@ -47,7 +47,7 @@ fn settings_at(l: &[u8], i: usize) -> Settings
     Settings {
         charset: l[i],
         codes: l[i + 1],
-        shown: l[i + 2],
+        caret: l[i + 2],
         brightness: l[i + 3],
         speed: l[i + 4],
         width: l[i + 5],

@@ -28,7 +28,7 @@ abbrev pub settingsBytes : Settings → List ℕ
 settingsBytes v =
     v .charset
     ∷ v .codes
-    ∷ v .shown
+    ∷ v .caret
     ∷ v .brightness
     ∷ v .speed
     ∷ v .width

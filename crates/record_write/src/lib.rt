@@ -21,7 +21,7 @@ fn settings_bytes(v: Settings) -> [u8; 11]
     [
         v.charset,
         v.codes,
-        v.shown,
+        v.caret,
         v.brightness,
         v.speed,
         v.width,
@@ -87,7 +87,7 @@ fn hold_bytes(hold: Hold) -> [u8; 14]
                 selected,
                 settings.charset,
                 settings.codes,
-                settings.shown,
+                settings.caret,
                 settings.brightness,
                 settings.speed,
                 settings.width,

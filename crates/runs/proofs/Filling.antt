@@ -12,10 +12,10 @@ use Rattle.paper.specs.declared.Span.{Span}
 use Rattle.paper.specs.declared.Style.{Style}
 use Rattle.paper.specs.Strokes.{applyAll}
 use Rattle.paper.specs.Carry.{imageStrokes}
-use Rattle.laws_state.specs.Runs.{Image, image, storedOn, picturesOf}
+use Rattle.laws_state.specs.Runs.{Image, image, storedOn, imageBytesOf}
 use Rattle.laws_state.proofs.Runs.{column-next}
-use Rattle.laws_state.proofs.Taken.{pictures-more, pictures-whole, pictures-end}
-use Rattle.moves.specs.declared.Pen.{Pen}
+use Rattle.laws_state.proofs.Taken.{image-bytes-more, image-bytes-whole, image-bytes-end}
+use Rattle.moves.specs.declared.Spot.{Spot}
 use Rattle.runs.specs.declared.Place.{Place}
 use Rattle.runs.specs.Runs.{placeAfter, marksTo, filledTo, Stocked}
 use Rattle.runs.proofs.Rows.{marks-begin, marks-next}
@@ -33,7 +33,7 @@ place-on : (z : Bool) (n c r : ℕ) → r < 2 → n ≤ c + r → n ≤ cond z c
 place-on true n c r h l = omega arith
 place-on false n c r h l = omega arith
 
-module _ (g : Geometry) (p : Pen) (y : Style) (width height column row : ℕ) (m piece : List ℕ) (from : ℕ) where
+module _ (g : Geometry) (p : Spot) (y : Style) (width height column row : ℕ) (m piece : List ℕ) (from : ℕ) where
   -- what the rows are marked with at (c, r)
   abbrev pub marksAt : ℕ → ℕ → List Span
   marksAt c r = marksTo (p .view) height column row c r (p .spans)
@@ -47,8 +47,8 @@ module _ (g : Geometry) (p : Pen) (y : Style) (width height column row : ℕ) (m
     pub down : r < height
     pub on : column ≤ c
     pub beyond : column + row ≤ c + r
-    pub done : picturesOf g (p .view) y width height (image (marksAt c r) n c r) (drop i piece)
-        ≡ picturesOf g (p .view) y width height (image (p .spans) m column row) (drop from piece)
+    pub done : imageBytesOf g (p .view) y width height (image (marksAt c r) n c r) (drop i piece)
+        ≡ imageBytesOf g (p .view) y width height (image (p .spans) m column row) (drop from piece)
 
   -- nothing stored yet
   pub filling-begin : column < width → row < height → from < length piece → Filling m column row from
@@ -62,7 +62,7 @@ module _ (g : Geometry) (p : Pen) (y : Style) (width height column row : ℕ) (m
         on = omega arith;
         beyond = omega arith;
         done =
-            ap (λ (ps : List Span). picturesOf g (p .view) y width height (image ps m column row) (drop from piece))
+            ap (λ (ps : List Span). imageBytesOf g (p .view) y width height (image ps m column row) (drop from piece))
             (marks-begin (p .view) y height column row (p .spans));
       }
 
@@ -97,7 +97,7 @@ module _ (g : Geometry) (p : Pen) (y : Style) (width height column row : ℕ) (m
           down = next-down;
           on = next-on;
           beyond = next-beyond;
-          done = pictures-more g (p .view) y width height piece i (image (marksAt c r) n c r) l stored-one w ∙ k .done;
+          done = image-bytes-more g (p .view) y width height piece i (image (marksAt c r) n c r) l stored-one w ∙ k .done;
         }
 
     -- the image's last
@@ -107,7 +107,7 @@ module _ (g : Geometry) (p : Pen) (y : Style) (width height column row : ℕ) (m
         record {
           some = omega (arith, k .low);
           end = omega arith;
-          done = pictures-whole g (p .view) y width height piece i (image (marksAt c r) n c r) l stored-one w ∙ k .done;
+          done = image-bytes-whole g (p .view) y width height piece i (image (marksAt c r) n c r) l stored-one w ∙ k .done;
         }
 
   -- the piece's end
@@ -117,5 +117,5 @@ module _ (g : Geometry) (p : Pen) (y : Style) (width height column row : ℕ) (m
       record {
         some = omega arith;
         end = k .high;
-        done = pictures-end g (p .view) y width height piece i (image (marksAt c r) n c r) e ∙ k .done;
+        done = image-bytes-end g (p .view) y width height piece i (image (marksAt c r) n c r) e ∙ k .done;
       }

@@ -17,8 +17,8 @@ use Rattle.cells.specs.Drawn.{drawn}
 use Rattle.cells.proofs.Strokes.{drawn-stroke}
 use Rattle.laws_memory.specs.Spans.{markRect}
 use Rattle.laws_memory.proofs.Tests.{and-parts}
-use Rattle.moves.specs.declared.Pen.{Pen}
-use Rattle.moves.specs.Does.{Does, pen}
+use Rattle.moves.specs.declared.Spot.{Spot}
+use Rattle.moves.specs.Does.{Does, spot}
 use Rattle.moves.proofs.Done.{does-only}
 use Rattle.text.proofs.Steps.{stroke-tab}
 
@@ -42,7 +42,7 @@ module _ (g : Geometry) (ps : List Span) (m font : List ℕ) (w : ℕ) (y : Styl
   unfolding htOf
   steps-on = rw (le-leb (v .x + 2 * cellWidth w y) (v .width) across)
 
-  pub drawn-in-line : {r : Pen} {qs : List Span} {m₁ : List ℕ} → r ≡ pen (to v (v .x + cellWidth w y) (v .y)) qs
+  pub drawn-in-line : {r : Spot} {qs : List Span} {m₁ : List ℕ} → r ≡ spot (to v (v .x + cellWidth w y) (v .y)) qs
       → qs ≡ markRect (v .left + v .x) (v .top + v .y) (cellWidth w y) (cellHeight y) ps
       → m₁ ≡ drawn g font code w y (v .left + v .x) (v .top + v .y) (cellWidth w y) (cellHeight y) m
       → Does g ps m r m₁ (characterOf g font w y code v)

@@ -20,8 +20,8 @@ use Rattle.laws_state.proofs.Runs.{within-kept, within-room}
 use Rattle.laws_state.proofs.Taken.{characters-more, characters-stop, characters-end}
 use Rattle.laws_memory.specs.Spans.{markRect}
 use Rattle.laws_memory.proofs.Tests.{eq-cases, and-parts}
-use Rattle.moves.specs.declared.Pen.{Pen}
-use Rattle.moves.specs.Does.{Does, pen}
+use Rattle.moves.specs.declared.Spot.{Spot}
+use Rattle.moves.specs.Does.{Does, spot}
 use Rattle.cells.specs.Drawn.{drawn}
 use Rattle.runs.specs.declared.Drawn.{Drawn}
 use Rattle.runs.specs.Runs.{under, drawnTo, penAt, Went, Ran}
@@ -29,7 +29,7 @@ use Rattle.runs.proofs.Marks.{mark-at, mark-none, mark-beside}
 use Rattle.runs.proofs.Lines.{drawn-in-line}
 
 -- what a character did is what it does to a sheet
-on-sheet : (g : Geometry) (font : List ℕ) (w : ℕ) (y : Style) (b : ℕ) (q r : Pen) (n n′ : List ℕ)
+on-sheet : (g : Geometry) (font : List ℕ) (w : ℕ) (y : Style) (b : ℕ) (q r : Spot) (n n′ : List ℕ)
     → Does g (q .spans) n r n′ (characterOf g font w y b (q .view)) → under r n′ ≡ writtenOn g font w y (under q n) b
 on-sheet g font w y b q r n n′ d = rw (d .view, d .spans, d .mem)
 
@@ -38,7 +38,7 @@ past : (piece : List ℕ) (from i : ℕ) → from ≤ i → 0x20 ≤ getD piece 
 past piece from i l a b =
     eq-cases from i (λ e. let f : getD piece from 0 < 0x20 = rw e b in absurd (omega arith)) (λ n. omega arith)
 
-module _ (g : Geometry) (font : List ℕ) (w : ℕ) (y : Style) (p : Pen) (m piece : List ℕ) (from : ℕ) where
+module _ (g : Geometry) (font : List ℕ) (w : ℕ) (y : Style) (p : Spot) (m piece : List ℕ) (from : ℕ) where
   -- nothing drawn yet
   pub went-begin : InMemory g (p .view) → from < length piece → Went g font w y p m piece from (drawnTo p from) m
   went-begin i l =
@@ -50,9 +50,9 @@ module _ (g : Geometry) (font : List ℕ) (w : ℕ) (y : Style) (p : Pen) (m pie
         done = refl;
       }
 
-  module _ (q : Pen) (n : List ℕ) (i : ℕ) (k : Went g font w y p m piece from (drawnTo q i) n) where
+  module _ (q : Spot) (n : List ℕ) (i : ℕ) (k : Went g font w y p m piece from (drawnTo q i) n) where
     -- a character more
-    pub went-next : {r : Pen} {n′ : List ℕ} → Room g (p .view) (cellWidth w y) (cellHeight y) → i < length piece → 0x20 ≤ getD piece i 0
+    pub went-next : {r : Spot} {n′ : List ℕ} → Room g (p .view) (cellWidth w y) (cellHeight y) → i < length piece → 0x20 ≤ getD piece i 0
         → Does g (q .spans) n r n′ (characterOf g font w y (getD piece i 0) (q .view)) → length n′ ≡ length n
         → Went g font w y p m piece from (drawnTo r (i + 1)) n′
     went-next {r} {n′} room l b d e =
@@ -108,7 +108,7 @@ module _ (g : Geometry) (font : List ℕ) (w : ℕ) (y : Style) (p : Pen) (m pie
 
   -- ---- a line, marked once
 
-  -- the line so far: its cursor in column x, which is the pen's as long as nothing was drawn
+  -- the line so far: its cursor in column x, which is the spot's as long as nothing was drawn
   pub record Lining (l : ℕ) (n : List ℕ) (x i : ℕ) : Type 0 where
     pub went : Went g font w y p m piece from (drawnTo (penAt p l x) i) n
     pub on : p .view .x ≤ x
@@ -157,10 +157,10 @@ module _ (g : Geometry) (font : List ℕ) (w : ℕ) (y : Style) (p : Pen) (m pie
         (λ n. omega (arith, k .went .low))
 
 -- a run of one character does what the character does
-pub ran-one : (g : Geometry) (font : List ℕ) (w : ℕ) (y : Style) (p : Pen) (m : List ℕ) (code : ℕ) (r : Drawn) (m′ : List ℕ) → 0x20 ≤ code
-    → Ran g font w y p m (code ∷ []) 0 r m′ → Does g (p .spans) m (r .pen) m′ (characterOf g font w y code (p .view))
+pub ran-one : (g : Geometry) (font : List ℕ) (w : ℕ) (y : Style) (p : Spot) (m : List ℕ) (code : ℕ) (r : Drawn) (m′ : List ℕ) → 0x20 ≤ code
+    → Ran g font w y p m (code ∷ []) 0 r m′ → Does g (p .spans) m (r .spot) m′ (characterOf g font w y code (p .view))
 ran-one g font w y p m code r m′ h d =
-    let e : written (under (r .pen) m′) (drop (r .at) (code ∷ [])) ≡ written (writtenOn g font w y (under p m) code) [] = d .done ∙ rw (le-leb 0x20 code h) in
+    let e : written (under (r .spot) m′) (drop (r .at) (code ∷ [])) ≡ written (writtenOn g font w y (under p m) code) [] = d .done ∙ rw (le-leb 0x20 code h) in
     record {
       view = ap (λ (t : Written). t .on .view) e;
       spans = ap (λ (t : Written). t .on .spans) e;

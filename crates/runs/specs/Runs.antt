@@ -1,4 +1,4 @@
--- What a run of characters and a run of an image's bytes owe: from a pen, a memory and a piece, the fold of its bytes. Assumes nothing.
+-- What a run of characters and a run of an image's bytes owe: from a spot, a memory and a piece, the fold of its bytes. Assumes nothing.
 use mathlib.Core.Path.{_≡_}
 use mathlib.Core.Bool.{cond}
 use mathlib.Core.List.{List}
@@ -11,41 +11,41 @@ use Rattle.paper.specs.declared.Style.{Style}
 use Rattle.paper.specs.declared.View.{View}
 use Rattle.paper.specs.Moves.{to}
 use Rattle.laws_memory.specs.Spans.{markRect}
-use Rattle.laws_state.specs.Runs.{Sheet, sheet, written, charactersOf, Within, Image, image, stored, picturesOf}
-use Rattle.moves.specs.declared.Pen.{Pen}
-use Rattle.moves.specs.Does.{pen}
+use Rattle.laws_state.specs.Runs.{Sheet, sheet, written, charactersOf, Within, Image, image, stored, imageBytesOf}
+use Rattle.moves.specs.declared.Spot.{Spot}
+use Rattle.moves.specs.Does.{spot}
 use Rattle.runs.specs.declared.Drawn.{Drawn}
 use Rattle.runs.specs.declared.Place.{Place}
 use Rattle.runs.specs.declared.Filled.{Filled}
 
 -- ---- characters
 
--- a pen and the memory under it
-abbrev pub under : Pen → List ℕ → Sheet
+-- a spot and the memory under it
+abbrev pub under : Spot → List ℕ → Sheet
 under p m = sheet (p .view) (p .spans) m
 
-abbrev pub drawnTo : Pen → ℕ → Drawn
-drawnTo p at = record { pen = p; at = at }
+abbrev pub drawnTo : Spot → ℕ → Drawn
+drawnTo p at = record { spot = p; at = at }
 
--- a pen whose line was drawn as far as column x, l rows high: what was drawn is marked as one rectangle
-abbrev pub penAt : Pen → ℕ → ℕ → Pen
+-- a spot whose line was drawn as far as column x, l rows high: what was drawn is marked as one rectangle
+abbrev pub penAt : Spot → ℕ → ℕ → Spot
 penAt p l x =
-    pen (to (p .view) x (p .view .y)) (markRect (p .view .left + p .view .x) (p .view .top + p .view .y) (x - p .view .x) l (p .spans))
+    spot (to (p .view) x (p .view .y)) (markRect (p .view .left + p .view .x) (p .view .top + p .view .y) (x - p .view .x) l (p .spans))
 
 -- some characters drawn, from one place of a piece to another: what is left gives what the whole gives
-pub record Went (g : Geometry) (font : List ℕ) (w : ℕ) (y : Style) (p : Pen) (m piece : List ℕ) (from : ℕ) (r : Drawn) (m′ : List ℕ) : Type 0 where
+pub record Went (g : Geometry) (font : List ℕ) (w : ℕ) (y : Style) (p : Spot) (m piece : List ℕ) (from : ℕ) (r : Drawn) (m′ : List ℕ) : Type 0 where
   pub low : from ≤ r .at
   pub high : r .at ≤ length piece
   pub size : length m′ ≡ length m
-  pub within : Within (p .view) (r .pen .view)
-  pub done : charactersOf g font w y (under (r .pen) m′) (drop (r .at) piece) ≡ charactersOf g font w y (under p m) (drop from piece)
+  pub within : Within (p .view) (r .spot .view)
+  pub done : charactersOf g font w y (under (r .spot) m′) (drop (r .at) piece) ≡ charactersOf g font w y (under p m) (drop from piece)
 
 -- a run of characters from one place of a piece to another, where the piece ends or a byte is none
-pub record Ran (g : Geometry) (font : List ℕ) (w : ℕ) (y : Style) (p : Pen) (m piece : List ℕ) (from : ℕ) (r : Drawn) (m′ : List ℕ) : Type 0 where
+pub record Ran (g : Geometry) (font : List ℕ) (w : ℕ) (y : Style) (p : Spot) (m piece : List ℕ) (from : ℕ) (r : Drawn) (m′ : List ℕ) : Type 0 where
   pub some : from < r .at
   pub end : r .at ≤ length piece
-  pub within : Within (p .view) (r .pen .view)
-  pub done : written (under (r .pen) m′) (drop (r .at) piece) ≡ charactersOf g font w y (under p m) (drop from piece)
+  pub within : Within (p .view) (r .spot .view)
+  pub done : written (under (r .spot) m′) (drop (r .at) piece) ≡ charactersOf g font w y (under p m) (drop from piece)
 
 -- ---- an image's bytes
 
@@ -70,13 +70,13 @@ abbrev pub marksTo : View → ℕ → ℕ → ℕ → ℕ → ℕ → List Span 
 marksTo v height column row x y ps =
     rowMark v (bottomOf v height) 1 column x (rowMark v (bottomOf v height) 0 (column + row) (x + y) ps)
 
-abbrev pub filledTo : Pen → ℕ → ℕ → ℕ → ℕ → ℕ → ℕ → Filled
+abbrev pub filledTo : Spot → ℕ → ℕ → ℕ → ℕ → ℕ → ℕ → Filled
 filledTo p height column row x y at =
     record { spans = marksTo (p .view) height column row x y (p .spans); column = x; row = y; at = at }
 
 -- a run of an image's bytes from one place of a piece to another, where the piece or the image ends
-pub record Stocked (g : Geometry) (p : Pen) (y : Style) (width height column row : ℕ) (m piece : List ℕ) (from : ℕ) (r : Filled) (m′ : List ℕ) : Type 0 where
+pub record Stocked (g : Geometry) (p : Spot) (y : Style) (width height column row : ℕ) (m piece : List ℕ) (from : ℕ) (r : Filled) (m′ : List ℕ) : Type 0 where
   pub some : from < r .at
   pub end : r .at ≤ length piece
   pub done : stored (image (r .spans) m′ (r .column) (r .row)) (drop (r .at) piece)
-      ≡ picturesOf g (p .view) y width height (image (p .spans) m column row) (drop from piece)
+      ≡ imageBytesOf g (p .view) y width height (image (p .spans) m column row) (drop from piece)

@@ -2,7 +2,7 @@
 // It may use text for a character that wraps, cells for what is drawn, moves and dots for the cursor and the spans. It knows no
 // state, so that the compiler need not lay one down for each byte, and what a run has written is marked once.
 // Each contract says that the run is the fold of its single bytes.
-use moves::Pen;
+use moves::Spot;
 use paper::Geometry;
 use paper::Span;
 use paper::Style;
@@ -20,14 +20,14 @@ ghost use Rattle.runs.specs.Runs.{Went, Ran, penAt, drawnTo, placeAfter,
 
 // ---- characters
 
-// Where a run of characters ended: the pen, and the place after its last byte.
+// Where a run of characters ended: the spot, and the place after its last byte.
 pub struct Drawn {
-    pub pen: Pen,
+    pub spot: Spot,
     pub at: usize,
 }
 
-// Where a line ended, its cursor in column x: all that was drawn since the pen's column is marked at once.
-fn drawn_to(p: Pen, l: usize, x: usize, at: usize) -> Drawn
+// Where a line ended, its cursor in column x: all that was drawn since the spot's column is marked at once.
+fn drawn_to(p: Spot, l: usize, x: usize, at: usize) -> Drawn
     requires { ⌜ (p .view .x ≤ x) × (p .view .left + x < 65536) × (p .view .top + (p .view .y + l) < 65536) ⌝ }
     ensures { λ r. ⌜ r ≡ drawnTo (penAt p l x) at ⌝ }
 {
@@ -35,8 +35,8 @@ fn drawn_to(p: Pen, l: usize, x: usize, at: usize) -> Drawn
     let before = p.spans;
     let spans = dots::mark(before, v.left + v.x, v.top + v.y, x - v.x, l);
     let view = moves::to(v, x, v.y);
-    let pen = Pen { view, spans };
-    Drawn { pen, at }
+    let spot = Spot { view, spans };
+    Drawn { spot, at }
 }
 
 // The characters that stand in the cursor's line with room for another after each; its cells are c columns wide and l rows high.
@@ -44,7 +44,7 @@ fn line(
     g: Geometry,
     mem: &mut [u8],
     font: &[u8],
-    p: Pen,
+    p: Spot,
     w: u8,
     style: Style,
     c: usize,
@@ -81,7 +81,7 @@ fn stretch(
     g: Geometry,
     mem: &mut [u8],
     font: &[u8],
-    p: Pen,
+    p: Spot,
     w: u8,
     style: Style,
     c: usize,
@@ -101,8 +101,8 @@ fn stretch(
     if (x + 2 * c <= width) & (y + l <= height) {
         return line(g, mem, font, p, w, style, c, l, piece, from);
     }
-    let pen = text::character(g, mem, font, p, w, style, piece[from]);
-    Drawn { pen, at: from + 1 }
+    let spot = text::character(g, mem, font, p, w, style, piece[from]);
+    Drawn { spot, at: from + 1 }
 }
 
 // The characters of a piece from `from` on, up to the first byte that is none.
@@ -110,7 +110,7 @@ pub fn run(
     g: Geometry,
     mem: &mut [u8],
     font: &[u8],
-    p: Pen,
+    p: Spot,
     w: u8,
     style: Style,
     piece: &[u8],
@@ -127,13 +127,13 @@ pub fn run(
     while i < piece.len() {
         let b = piece[i];
         if b < 0x20 {
-            return Drawn { pen: q, at: i };
+            return Drawn { spot: q, at: i };
         }
         let r = stretch(g, mem, font, q, w, style, c, l, piece, i);
-        q = r.pen;
+        q = r.spot;
         i = r.at;
     }
-    Drawn { pen: q, at: i }
+    Drawn { spot: q, at: i }
 }
 
 // ---- an image's bytes
@@ -203,7 +203,7 @@ pub struct Filled {
 }
 
 // Where a run that began at (column, row) ended, its next byte at (x, y): each row is marked once.
-fn filled_to(p: Pen, height: u16, column: u16, row: u16, x: u16, y: u16, at: usize) -> Filled
+fn filled_to(p: Spot, height: u16, column: u16, row: u16, x: u16, y: u16, at: usize) -> Filled
     requires { ⌜ (p .view .left + p .view .width < 65536) × (p .view .top + p .view .height < 65536) × (p .view .x < 65536) × (p .view .y < 65536) ⌝ }
     requires { ⌜ (row < 2) × (y < 2) × (column ≤ x) × (column + row ≤ x + y) ⌝ }
     ensures { λ r. ⌜ r ≡ filledTo p height column row x y at ⌝ }
@@ -224,10 +224,10 @@ fn filled_to(p: Pen, height: u16, column: u16, row: u16, x: u16, y: u16, at: usi
 }
 
 // The bytes of an image, two rows high at most, in a piece from `from` on, up to the piece's end or the image's.
-pub fn pictures(
+pub fn image_bytes(
     g: Geometry,
     mem: &mut [u8],
-    p: Pen,
+    p: Spot,
     style: Style,
     width: u16,
     height: u16,

@@ -9,14 +9,14 @@ use types.Run.{OneOf}
 use denote.Enum.Declared.{tagOf}
 use Rattle.paper.proofs.Key.{the-type}
 use Rattle.paper.specs.declared.Key.{Key}
-use Rattle.paper.specs.declared.Key.the-variants.{Charset, Codes, Shown, Brightness, Reverse, Speed, Mixing, Width, Write}
+use Rattle.paper.specs.declared.Key.the-variants.{Charset, Codes, Caret, Brightness, Reverse, Speed, Mixing, Width, Write}
 
 -- the key with a tag
 abbrev keyAt : ℕ → Key
 keyAt n =
     cond (eqb n 0) Charset
     (cond (eqb n 1) Codes
-    (cond (eqb n 2) Shown
+    (cond (eqb n 2) Caret
     (cond (eqb n 3) Brightness
     (cond (eqb n 4) Reverse
     (cond (eqb n 5) Speed
@@ -26,7 +26,7 @@ keyAt n =
 by-tag : (k : Key) → keyAt (tagOf the-type k) ≡ k
 by-tag Charset = refl
 by-tag Codes = refl
-by-tag Shown = refl
+by-tag Caret = refl
 by-tag Brightness = refl
 by-tag Reverse = refl
 by-tag Speed = refl

@@ -33,7 +33,7 @@ fn initial_settings() -> Settings
     Settings {
         charset: 0,
         codes: 0,
-        shown: 0,
+        caret: 0,
         brightness: 8,
         speed: 0,
         width: 1,
@@ -119,7 +119,7 @@ pub fn with_setting(v: Settings, key: Key, n: u8) -> Settings
     match key {
         Key::Charset => t.charset = n,
         Key::Codes => t.codes = n,
-        Key::Shown => t.shown = n,
+        Key::Caret => t.caret = n,
         Key::Brightness => t.brightness = n,
         Key::Reverse => t.style.reverse = n,
         Key::Speed => t.speed = n,

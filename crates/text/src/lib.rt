@@ -1,7 +1,7 @@
 // Text: a character drawn at the cursor, with the wrap that the mode asks for.
 // It may use moves for the cursor and cells for what is drawn; it knows nothing of windows, settings or how bytes are read.
 // Each contract says that what was done is what the paper's definition of the same name means.
-use moves::Pen;
+use moves::Spot;
 use paper::Geometry;
 use paper::Style;
 use paper::View;
@@ -43,7 +43,15 @@ fn inside(v: View, c: usize, l: usize) -> Part
 }
 
 // Draws the cell of a code at the cursor, then HT.
-fn draw_tab(g: Geometry, mem: &mut [u8], font: &[u8], p: Pen, w: u8, style: Style, code: u8) -> Pen
+fn draw_tab(
+    g: Geometry,
+    mem: &mut [u8],
+    font: &[u8],
+    p: Spot,
+    w: u8,
+    style: Style,
+    code: u8,
+) -> Spot
     requires { ⌜ Usable g × (Room g (p .view) (cellWidth w style) (cellHeight style) × (Inked (now font) style code × Fits g (now mem))) ⌝ }
     ensures { λ r. ⌜ Does g (p .spans) (now (mem .entry)) r (now (mem .exit)) (drawTab g (now (font .entry)) w style code (p .view)) ⌝ }
 {
@@ -65,11 +73,11 @@ fn draw_tab(g: Geometry, mem: &mut [u8], font: &[u8], p: Pen, w: u8, style: Styl
     );
     let before = p.spans;
     let spans = dots::mark(before, r.left, r.top, r.width, r.height);
-    moves::tab(g, mem, Pen { view: v, spans }, c, l)
+    moves::tab(g, mem, Spot { view: v, spans }, c, l)
 }
 
 // Draws an all-off cell at the cursor, then HT.
-fn blank_tab(g: Geometry, mem: &mut [u8], p: Pen, w: u8, style: Style) -> Pen
+fn blank_tab(g: Geometry, mem: &mut [u8], p: Spot, w: u8, style: Style) -> Spot
     requires { ⌜ Usable g × (Room g (p .view) (cellWidth w style) (cellHeight style) × ((style .down ≤ 2) × Fits g (now mem))) ⌝ }
     ensures { λ r. ⌜ Does g (p .spans) (now (mem .entry)) r (now (mem .exit)) (blankTab g w style (p .view)) ⌝ }
 {
@@ -80,7 +88,7 @@ fn blank_tab(g: Geometry, mem: &mut [u8], p: Pen, w: u8, style: Style) -> Pen
     cells::blank(g, mem, style, r.left, r.top, r.width, r.height);
     let before = p.spans;
     let spans = dots::mark(before, r.left, r.top, r.width, r.height);
-    moves::tab(g, mem, Pen { view: v, spans }, c, l)
+    moves::tab(g, mem, Spot { view: v, spans }, c, l)
 }
 
 // A character: drawn where it fits; else after the wrap that the mode asks for.
@@ -88,11 +96,11 @@ pub fn character(
     g: Geometry,
     mem: &mut [u8],
     font: &[u8],
-    p: Pen,
+    p: Spot,
     w: u8,
     style: Style,
     code: u8,
-) -> Pen
+) -> Spot
     requires { ⌜ Usable g × (Room g (p .view) (cellWidth w style) (cellHeight style) × (Inked (now font) style code × Fits g (now mem))) ⌝ }
     ensures { λ r. ⌜ Does g (p .spans) (now (mem .entry)) r (now (mem .exit)) (characterOf g (now (font .entry)) w style code (p .view)) ⌝ }
 {

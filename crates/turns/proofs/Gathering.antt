@@ -9,7 +9,7 @@ use lib.ListN.{length, getD, drop, length-drop}
 use Rattle.paper.specs.declared.Geometry.{Geometry}
 use Rattle.paper.specs.declared.Half.{Half}
 use Rattle.paper.specs.declared.Reading.{Reading}
-use Rattle.paper.specs.declared.Reading.the-variants.{More, Whole, Picture, PictureEnd, Cancels, UnknownCode}
+use Rattle.paper.specs.declared.Reading.the-variants.{More, Whole, ImageByte, ImageEnd, Cancels, UnknownCode}
 use Rattle.paper.specs.declared.Outcome.{Outcome}
 use Rattle.paper.specs.declared.Outcome.the-variants.{Unfinished}
 use Rattle.paper.specs.declared.Refusal.{Refusal}
@@ -51,8 +51,8 @@ half-aside : (g : Geometry) (font : List ℕ) (s : State) (h : Half) (q : Readin
 unfolding takeOf viewOf
 half-aside g font s h (More p) = refl
 half-aside g font s h (Whole c) = refl
-half-aside g font s h (Picture column row b p) = refl
-half-aside g font s h (PictureEnd column row b) = refl
+half-aside g font s h (ImageByte column row b p) = refl
+half-aside g font s h (ImageEnd column row b) = refl
 half-aside g font s h Cancels = refl
 half-aside g font s h UnknownCode = refl
 

@@ -25,11 +25,11 @@ use Rattle.laws_state.proofs.Parts.{parts}
 use Rattle.paper.specs.Settings.{withHalf, withSpans, withView, viewOf}
 use Rattle.paper.specs.Calls.{Feeding, feeding, next}
 use Rattle.laws_state.specs.Room.{Usable}
-use Rattle.laws_state.specs.Runs.{Reaches, Sheet, sheet, Written, written, charactersOf, onSheet, Within, Image, image, Stored, stored, picturesOf, outcomeAt, doneAt, onImage}
+use Rattle.laws_state.specs.Runs.{Reaches, Sheet, sheet, Written, written, charactersOf, onSheet, Within, Image, image, Stored, stored, imageBytesOf, outcomeAt, doneAt, onImage}
 use Rattle.laws_state.proofs.Views.{view-place}
 use Rattle.laws_state.proofs.Sheets.{view-same}
 use Rattle.laws_state.proofs.Reached.{reaches-next}
-use Rattle.laws_state.proofs.Runs.{penned, penned-within, character-next, characters-reached, pictures-reached}
+use Rattle.laws_state.proofs.Runs.{penned, penned-within, character-next, characters-reached, image-bytes-reached}
 use Rattle.laws_state.proofs.Taken.{from-here}
 use Rattle.turns.specs.Turns.{fed, Drawable}
 
@@ -88,12 +88,12 @@ module _ (g : Geometry) (font : List ℕ) (u : Usable g) (f : Fed) (m piece : Li
 
 module _ (g : Geometry) (font : List ℕ) (f : Fed) (m piece : List ℕ) (i width height column row : ℕ) where
   -- a run of an image's bytes from there on
-  pictures-turn : (j : Image) (at : ℕ) → f .state .half ≡ ImageData width height column row → column < width → i < length piece
+  image-bytes-turn : (j : Image) (at : ℕ) → f .state .half ≡ ImageData width height column row → column < width → i < length piece
       → stored j (drop at piece)
-      ≡ picturesOf g (viewOf g (f .state)) (f .state .settings .style) width height (image (f .state .spans) m column row) (drop i piece)
+      ≡ imageBytesOf g (viewOf g (f .state)) (f .state .settings .style) width height (image (f .state .spans) m column row) (drop i piece)
       → Reaches g font (fed f m) (drop i piece)
       (feeding (f .refusal) (onImage (f .state) width height j) (f .carried + doneAt width j) (f .answered) (outcomeAt width j) (j .mem)) (drop at piece)
-  pictures-turn j at e c l k = rw (from-here piece i l) (rw (← same) at (rw starts at rest)) where
+  image-bytes-turn j at e c l k = rw (from-here piece i l) (rw (← same) at (rw starts at rest)) where
     begun-here : Image
     begun-here = image (f .state .spans) m column row
 
@@ -101,31 +101,31 @@ module _ (g : Geometry) (font : List ℕ) (f : Fed) (m piece : List ℕ) (i widt
     starts = ap (λ (q : Half). withHalf (f .state) q) (sym e)
 
     same : stored j (drop at piece)
-        ≡ picturesOf g (viewOf g (f .state)) (f .state .settings .style) width height begun-here (getD piece i 0 ∷ drop (i + 1) piece)
+        ≡ imageBytesOf g (viewOf g (f .state)) (f .state .settings .style) width height begun-here (getD piece i 0 ∷ drop (i + 1) piece)
     same = rw (from-here piece i l) at k
 
-    rest : let t = picturesOf g (viewOf g (f .state)) (f .state .settings .style) width height begun-here (getD piece i 0 ∷ drop (i + 1) piece) in
+    rest : let t = imageBytesOf g (viewOf g (f .state)) (f .state .settings .style) width height begun-here (getD piece i 0 ∷ drop (i + 1) piece) in
         Reaches g font (feeding (f .refusal) (withHalf (f .state) (ImageData width height column row)) (f .carried) (f .answered) (f .outcome) m) (getD piece i 0 ∷ drop (i + 1) piece)
         (feeding (f .refusal) (onImage (f .state) width height (t .on)) (f .carried + doneAt width (t .on)) (f .answered) (outcomeAt width (t .on)) (t .on .mem)) (t .rest)
-    rest = pictures-reached g font (f .state) (f .refusal) (f .answered) width height (f .outcome) (getD piece i 0) (drop (i + 1) piece) begun-here (f .carried) c
+    rest = image-bytes-reached g font (f .state) (f .refusal) (f .answered) width height (f .outcome) (getD piece i 0) (drop (i + 1) piece) begun-here (f .carried) c
 
   -- the image is whole
-  pub pictures-whole-turn : (j : Image) (at : ℕ) → f .state .half ≡ ImageData width height column row → column < width → i < length piece
+  pub image-bytes-whole-turn : (j : Image) (at : ℕ) → f .state .half ≡ ImageData width height column row → column < width → i < length piece
       → stored j (drop at piece)
-      ≡ picturesOf g (viewOf g (f .state)) (f .state .settings .style) width height (image (f .state .spans) m column row) (drop i piece)
+      ≡ imageBytesOf g (viewOf g (f .state)) (f .state .settings .style) width height (image (f .state .spans) m column row) (drop i piece)
       → eqb (j .column) width ≡ true
       → Reaches g font (fed f m) (drop i piece)
       (feeding (f .refusal) (withHalf (withSpans (f .state) (j .spans)) Nothing) (f .carried + 1) (f .answered) Carried (j .mem)) (drop at piece)
-  pictures-whole-turn j at e c l k z = rw z at (pictures-turn j at e c l k)
+  image-bytes-whole-turn j at e c l k z = rw z at (image-bytes-turn j at e c l k)
 
   -- the image goes on
-  pub pictures-part-turn : (j : Image) (at : ℕ) → f .state .half ≡ ImageData width height column row → column < width → i < length piece
+  pub image-bytes-part-turn : (j : Image) (at : ℕ) → f .state .half ≡ ImageData width height column row → column < width → i < length piece
       → stored j (drop at piece)
-      ≡ picturesOf g (viewOf g (f .state)) (f .state .settings .style) width height (image (f .state .spans) m column row) (drop i piece)
+      ≡ imageBytesOf g (viewOf g (f .state)) (f .state .settings .style) width height (image (f .state .spans) m column row) (drop i piece)
       → eqb (j .column) width ≡ false
       → Reaches g font (fed f m) (drop i piece)
       (feeding (f .refusal) (withHalf (withSpans (f .state) (j .spans)) (ImageData width height (j .column) (j .row))) (f .carried) (f .answered) Unfinished (j .mem)) (drop at piece)
-  pictures-part-turn j at e c l k z = rw (z, add-zero (f .carried)) at (pictures-turn j at e c l k)
+  image-bytes-part-turn j at e c l k z = rw (z, add-zero (f .carried)) at (image-bytes-turn j at e c l k)
 
 -- ---- what the runs ask
 

@@ -74,7 +74,7 @@ fn is_drawn(g: Geometry, s: State, b: u8) -> bool
         return false;
     }
     if is_nothing(half) {
-        let p = carry_dots::pen_of(g, s);
+        let p = carry_dots::spot_of(g, s);
         let v = s.settings;
         let style = v.style;
         return !carry_state::is_too_large(p.view, v.width, style);
@@ -88,12 +88,12 @@ fn feed_characters(g: Geometry, mem: &mut [u8], font: &[u8], piece: &[u8], f: Fe
     ensures { λ r. ⌜ Turned g (now (font .entry)) f (now (mem .entry)) (now (piece .entry)) i r (now (mem .exit)) ⌝ }
 {
     let s = f.state;
-    let p = carry_dots::pen_of(g, s);
+    let p = carry_dots::spot_of(g, s);
     let v = s.settings;
     let style = v.style;
     let r = runs::run(g, mem, font, p, v.width, style, piece, i);
     let at = r.at;
-    let q = r.pen;
+    let q = r.spot;
     let state = carry_dots::settle(s, q);
     let refusal = f.refusal;
     let fed = Fed {
@@ -107,7 +107,7 @@ fn feed_characters(g: Geometry, mem: &mut [u8], font: &[u8], piece: &[u8], f: Fe
 }
 
 // An image's byte and those that follow it.
-fn feed_pictures(
+fn feed_image(
     g: Geometry,
     mem: &mut [u8],
     font: &[u8],
@@ -123,11 +123,11 @@ fn feed_pictures(
     ensures { λ r. ⌜ Turned g (now (font .entry)) f (now (mem .entry)) (now (piece .entry)) i r (now (mem .exit)) ⌝ }
 {
     let s = f.state;
-    let p = carry_dots::pen_of(g, s);
+    let p = carry_dots::spot_of(g, s);
     let v = s.settings;
     let refusal = f.refusal;
     let style = v.style;
-    let r = runs::pictures(g, mem, p, style, width, height, column, row, piece, i);
+    let r = runs::image_bytes(g, mem, p, style, width, height, column, row, piece, i);
     let at = r.at;
     let spans = r.spans;
     if r.column == width {
@@ -236,7 +236,7 @@ pub fn feed_some(g: Geometry, mem: &mut [u8], font: &[u8], piece: &[u8], f: Fed,
             height,
             column,
             row,
-        } => { feed_pictures(g, mem, font, piece, f, width, height, column, row, i) }
+        } => { feed_image(g, mem, font, piece, f, width, height, column, row, i) }
         _ => feed_command(g, mem, font, piece, f, i),
     }
 }

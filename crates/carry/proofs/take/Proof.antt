@@ -20,23 +20,23 @@ carry-out-requires c κs = let start = c .before .before .before .before .before
   (start .pre .1 .0, rw (c .before .before .before .before .before .before .r2 .given .1) at (start .pre .1 .1)),
 )
 
-pen-of-requires : tie.Need-pen-of-requires
-pen-of-requires c κs = let start = c .before .before .before .before .before in
+spot-of-requires : tie.Need-spot-of-requires
+spot-of-requires c κs = let start = c .before .before .before .before .before in
     (selected-small (start .args .g) (start .args .s) (start .pre .0 .state-ok), omega (arith, start .pre .0 .usable .visible-part))
 
-picture-requires : tie.Need-picture-requires
-picture-requires c κs = let start = c .before .before .before .before .before .before .before .before in
+image-byte-requires : tie.Need-image-byte-requires
+image-byte-requires c κs = let start = c .before .before .before .before .before .before .before .before in
     let r = start .pre .0 in
-    (r .usable, (rw (c .before .before .pen-of .ensures) (view-place (start .args .g) (r .usable) (start .args .s) (r .state-ok)), r .fits))
+    (r .usable, (rw (c .before .before .spot-of .ensures) (view-place (start .args .g) (r .usable) (start .args .s) (r .state-ok)), r .fits))
 
-pen-of-requires-2 : tie.Need-pen-of-requires-2
-pen-of-requires-2 c κs = let start = c .before .before .before .before .before in
+spot-of-requires-2 : tie.Need-spot-of-requires-2
+spot-of-requires-2 c κs = let start = c .before .before .before .before .before in
     (selected-small (start .args .g) (start .args .s) (start .pre .0 .state-ok), omega (arith, start .pre .0 .usable .visible-part))
 
-picture-requires-2 : tie.Need-picture-requires-2
-picture-requires-2 c κs = let start = c .before .before .before .before .before .before .before .before in
+image-byte-requires-2 : tie.Need-image-byte-requires-2
+image-byte-requires-2 c κs = let start = c .before .before .before .before .before .before .before .before in
     let r = start .pre .0 in
-    (r .usable, (rw (c .before .before .pen-of2 .ensures) (view-place (start .args .g) (r .usable) (start .args .s) (r .state-ok)), r .fits))
+    (r .usable, (rw (c .before .before .spot-of2 .ensures) (view-place (start .args .g) (r .usable) (start .args .s) (r .state-ok)), r .fits))
 
 returns : tie.Need-returns
 unfolding takeOf
@@ -50,14 +50,14 @@ returns-3 : tie.Need-returns-3
 unfolding takeOf
 returns-3 c = let start = c .before .before .before .before .before .before .before .before .before .before .before .before .before .before .before in
     rw (c .before .before .before .before .before .before .before .before .before .before .before .r3 .given .1)
-    (does-picture (start .args .s) _ Unfinished _ _ _ (rw (c .before .before .before .before .before .before .before .before .before .pen-of .ensures) at (c .before .before .before .before .before .before .picture .ensures))
+    (does-picture (start .args .s) _ Unfinished _ _ _ (rw (c .before .before .before .before .before .before .before .before .before .spot-of .ensures) at (c .before .before .before .before .before .before .image-byte .ensures))
     (c .ends2 .ensures))
 
 returns-4 : tie.Need-returns-4
 unfolding takeOf
 returns-4 c = let start = c .before .before .before .before .before .before .before .before .before .before .before .before .before .before .before in
     rw (c .before .before .before .before .before .before .before .before .before .before .before .r4 .given .1)
-    (does-picture (start .args .s) Nothing Carried _ _ _ (rw (c .before .before .before .before .before .before .before .before .before .pen-of2 .ensures) at (c .before .before .before .before .before .before .picture2 .ensures))
+    (does-picture (start .args .s) Nothing Carried _ _ _ (rw (c .before .before .before .before .before .before .before .before .before .spot-of2 .ensures) at (c .before .before .before .before .before .before .image-byte2 .ensures))
     (c .ends3 .ensures))
 
 returns-5 : tie.Need-returns-5
@@ -77,12 +77,12 @@ take-spec =
     (λ c. search needs)
     carry-out-requires
     (λ c. search needs)
-    pen-of-requires
-    picture-requires
+    spot-of-requires
+    image-byte-requires
     (λ c κs. search needs)
     (λ c. search needs)
-    pen-of-requires-2
-    picture-requires-2
+    spot-of-requires-2
+    image-byte-requires-2
     (λ c κs. search needs)
     (λ c. search needs)
     (λ c κs. search needs)

@@ -18,8 +18,8 @@ use Rattle.carry_dots.proofs.Inks.{inks}
 use Rattle.carry_dots.proofs.character.Statement.{statement}
 use Rattle.carry_dots.proofs.character.Tie as tie
 
-pen-of-requires : tie.Need-pen-of-requires
-pen-of-requires c κs = let start = c .before .before in
+spot-of-requires : tie.Need-spot-of-requires
+spot-of-requires c κs = let start = c .before .before in
     (selected-small (start .args .g) (start .args .s) (start .pre .0 .state-ok), omega (arith, start .pre .0 .usable .visible-part))
 
 returns : tie.Need-returns
@@ -27,13 +27,13 @@ unfolding notCarried ownersOnly outOfDomain notDefined cellExceeds carriedOut
 returns c = let start = c .before .before .before .before .before .before .before .before in
     does-answer (c .ends .ensures)
     (is-16 (start .args .g) (start .args .font .now) (start .args .s) (Character (start .args .code)) refl refl refl refl
-    (tested (start .args .s) (start .args .g) _ _ _ _ true (c .before .before .before .before .before .pen-of .ensures) (c .before .before .is-too-large .ensures) (c .before .if1 .taken)))
+    (tested (start .args .s) (start .args .g) _ _ _ _ true (c .before .before .before .before .before .spot-of .ensures) (c .before .before .is-too-large .ensures) (c .before .if1 .taken)))
 
 run-requires : tie.Need-run-requires
 run-requires c κs =
     let start = c .before .before .before .before .before .before .before .before .before in
     let r = start .pre .0 in
-    let pens = c .before .before .before .before .before .before .pen-of .ensures in (
+    let pens = c .before .before .before .before .before .before .spot-of .ensures in (
       (
         r .usable,
         (
@@ -54,9 +54,9 @@ settle-requires c κs =
     let a = start .args in
     let r = start .pre .0 in
     let v = a .s .settings in
-    let pens = c .before .before .before .before .before .before .before .before .before .before .pen-of .ensures in
+    let pens = c .before .before .before .before .before .before .before .before .before .before .spot-of .ensures in
     let ran = ran-one (a .g) (a .font .now) (v .width) (v .style) _ (a .mem .now) (a .code) (c .before .before .before .run .result) _ (start .pre .1 .1) (c .before .before .before .run .ensures) in
-    settles (a .g) (a .s) (a .mem .now) (characterOf (a .g) (a .font .now) (v .width) (v .style) (a .code) (viewOf (a .g) (a .s))) (c .before .before .before .run .result .pen .view) r
+    settles (a .g) (a .s) (a .mem .now) (characterOf (a .g) (a .font .now) (v .width) (v .style) (a .code) (viewOf (a .g) (a .s))) (c .before .before .before .run .result .spot .view) r
     (character-kept (a .g) (a .font .now) (v .width) (v .style) (a .code) (viewOf (a .g) (a .s))
     (view-room (a .g) (r .usable) (a .s) (r .state-ok) (tested (a .s) (a .g) _ _ _ _ false pens (c .before .before .before .before .before .before .before .is-too-large .ensures) (c .before .before .before .before .before .before .if1 .left))))
     ((rw pens at ran) .view)
@@ -67,7 +67,7 @@ returns-2 c =
     let start = c .before .before .before .before .before .before .before .before .before .before .before .before .before .before .before in
     let a = start .args in
     let v = a .s .settings in
-    let pens = c .before .before .before .before .before .before .before .before .before .before .before .before .pen-of .ensures in
+    let pens = c .before .before .before .before .before .before .before .before .before .before .before .before .spot-of .ensures in
     let ran = ran-one (a .g) (a .font .now) (v .width) (v .style) _ (a .mem .now) (a .code) (c .before .before .before .before .before .run .result) _ (start .pre .1 .1) (c .before .before .before .before .before .run .ensures) in
     does-move (a .s) (characterOf (a .g) (a .font .now) (v .width) (v .style) (a .code) (viewOf (a .g) (a .s))) (rw pens at ran)
     (ends-at (c .ends2 .ensures) (c .before .settle .ensures))
@@ -78,7 +78,7 @@ pub character-spec : {M : Type 1} → statement M
 character-spec =
     tie.close
     (tie.spec
-    pen-of-requires
+    spot-of-requires
     (λ c κs. search needs)
     (λ c κs. search needs)
     returns

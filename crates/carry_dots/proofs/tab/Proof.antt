@@ -15,8 +15,8 @@ use Rattle.carry_dots.proofs.Wrote.{does-answer, does-move, tested, set
 use Rattle.carry_dots.proofs.tab.Statement.{statement}
 use Rattle.carry_dots.proofs.tab.Tie as tie
 
-pen-of-requires : tie.Need-pen-of-requires
-pen-of-requires c κs = let start = c .before in
+spot-of-requires : tie.Need-spot-of-requires
+spot-of-requires c κs = let start = c .before in
     (selected-small (start .args .g) (start .args .s) (start .pre .state-ok), omega (arith, start .pre .usable .visible-part))
 
 is-too-large-requires : tie.Need-is-too-large-requires
@@ -29,7 +29,7 @@ returns : tie.Need-returns
 unfolding notCarried ownersOnly outOfDomain notDefined cellExceeds carriedOut
 returns c font = let start = c .before .before .before .before .before .before .before in
     does-answer (c .ends .ensures)
-    (is-16 (start .args .g) font (start .args .s) Tab refl refl refl refl (tested (start .args .s) (start .args .g) _ _ _ _ true (c .before .before .before .before .before .pen-of .ensures) (c .before .before .is-too-large .ensures) (c .before .if1 .taken)))
+    (is-16 (start .args .g) font (start .args .s) Tab refl refl refl refl (tested (start .args .s) (start .args .g) _ _ _ _ true (c .before .before .before .before .before .spot-of .ensures) (c .before .before .is-too-large .ensures) (c .before .if1 .taken)))
 
 cell-width-requires : tie.Need-cell-width-requires
 cell-width-requires c κs = search needs
@@ -42,8 +42,8 @@ tab-requires c κs = let start = c .before .before .before .before .before .befo
     let r = start .pre in (
       r .usable,
       (
-        rw (c .before .before .before .before .before .before .before .pen-of .ensures, c .before .before .cell-width .ensures)
-            (view-room (start .args .g) (r .usable) (start .args .s) (r .state-ok) (tested (start .args .s) (start .args .g) _ _ _ _ false (c .before .before .before .before .before .before .before .pen-of .ensures) (c .before .before .before .before .is-too-large .ensures) (c .before .before .before .if1 .left))),
+        rw (c .before .before .before .before .before .before .before .spot-of .ensures, c .before .before .cell-width .ensures)
+            (view-room (start .args .g) (r .usable) (start .args .s) (r .state-ok) (tested (start .args .s) (start .args .g) _ _ _ _ false (c .before .before .before .before .before .before .before .spot-of .ensures) (c .before .before .before .before .is-too-large .ensures) (c .before .before .before .if1 .left))),
         r .fits,
       ),
     )
@@ -55,8 +55,8 @@ settle-requires c κs = let start = c .before .before .before .before .before .b
     let v = viewOf (start .args .g) s in
     settles (start .args .g) s (start .args .mem .now) (htOf (start .args .g) v (widthNow s) (heightNow s)) (c .before .before .tab .result .view) r
     (ht-kept (start .args .g) v (widthNow s) (heightNow s)
-    (view-room (start .args .g) (r .usable) s (r .state-ok) (tested (start .args .s) (start .args .g) _ _ _ _ false (c .before .before .before .before .before .before .before .before .before .before .pen-of .ensures) (c .before .before .before .before .before .before .before .is-too-large .ensures) (c .before .before .before .before .before .before .if1 .left))))
-    ((rw (c .before .before .before .before .before .before .before .before .before .before .pen-of .ensures, c .before .before .before .before .before .cell-width .ensures) at (c .before .before .tab .ensures)) .view)
+    (view-room (start .args .g) (r .usable) s (r .state-ok) (tested (start .args .s) (start .args .g) _ _ _ _ false (c .before .before .before .before .before .before .before .before .before .before .spot-of .ensures) (c .before .before .before .before .before .before .before .is-too-large .ensures) (c .before .before .before .before .before .before .if1 .left))))
+    ((rw (c .before .before .before .before .before .before .before .before .before .before .spot-of .ensures, c .before .before .before .before .before .cell-width .ensures) at (c .before .before .tab .ensures)) .view)
 
 ends-requires-2 : tie.Need-ends-requires-2
 ends-requires-2 c κs = search needs
@@ -69,15 +69,15 @@ unfolding notCarried ownersOnly outOfDomain notDefined cellExceeds carriedOut
 returns-2 c font = let start = c .before .before .before .before .before .before .before .before .before .before .before .before .before .before in
     let s = start .args .s in
     does-move s (htOf (start .args .g) (viewOf (start .args .g) s) (widthNow s) (heightNow s))
-    (rw (c .before .before .before .before .before .before .before .before .before .before .before .before .pen-of .ensures, c .before .before .before .before .before .before .before .cell-width .ensures) at (c .before .before .before .before .tab .ensures))
+    (rw (c .before .before .before .before .before .before .before .before .before .before .before .before .spot-of .ensures, c .before .before .before .before .before .before .before .cell-width .ensures) at (c .before .before .before .before .tab .ensures))
     (ends-at (c .ends2 .ensures) (c .before .settle .ensures))
-    (is-10 (start .args .g) font s Tab (record { carried = refl; owner = refl; domain = refl; defined = refl; room = tested (start .args .s) (start .args .g) _ _ _ _ false (c .before .before .before .before .before .before .before .before .before .before .before .before .pen-of .ensures) (c .before .before .before .before .before .before .before .before .before .is-too-large .ensures) (c .before .before .before .before .before .before .before .before .if1 .left) }))
+    (is-10 (start .args .g) font s Tab (record { carried = refl; owner = refl; domain = refl; defined = refl; room = tested (start .args .s) (start .args .g) _ _ _ _ false (c .before .before .before .before .before .before .before .before .before .before .before .before .spot-of .ensures) (c .before .before .before .before .before .before .before .before .before .is-too-large .ensures) (c .before .before .before .before .before .before .before .before .if1 .left) }))
 
 pub tab-spec : {M : Type 1} → statement M
 tab-spec =
     tie.close
     (tie.spec
-    pen-of-requires
+    spot-of-requires
     is-too-large-requires
     ends-requires
     returns

@@ -3,13 +3,13 @@ use mathlib.Core.Path.{refl}
 use borrow.Author.Tests.{eq-eqb, ne-eqb}
 use borrow.Author.Needs.{needs}
 use Rattle.paper.specs.Moves.{lineFeedOf}
-use Rattle.moves.proofs.Done.{pen-at, does-only}
+use Rattle.moves.proofs.Done.{spot-at, does-only}
 use Rattle.moves.proofs.line_feed.Statement.{statement}
 use Rattle.moves.proofs.line_feed.Tie as tie
 
 returns : tie.Need-returns
 unfolding lineFeedOf
-returns c = rw (eq-eqb _ _ (c .before .before .if1 .taken)) (does-only _ (pen-at (c .before .line-down .ensures)))
+returns c = rw (eq-eqb _ _ (c .before .before .if1 .taken)) (does-only _ (spot-at (c .before .line-down .ensures)))
 
 returns-2 : tie.Need-returns-2
 unfolding lineFeedOf

@@ -2,7 +2,7 @@
 use borrow.Author.Tests.{le-leb, lt-leb, eq-eqb, ne-eqb}
 use borrow.Author.Needs.{needs}
 use Rattle.paper.specs.Moves.{htOf}
-use Rattle.moves.proofs.Done.{pen-at, does-only}
+use Rattle.moves.proofs.Done.{spot-at, does-only}
 use Rattle.moves.proofs.tab.Statement.{statement}
 use Rattle.moves.proofs.tab.Tie as tie
 
@@ -15,7 +15,7 @@ unfolding htOf
 returns-2 c =
     let tested = c .before .before in
     rw (lt-leb _ _ (tested .before .if1 .left), eq-eqb _ _ (tested .if2 .taken))
-    (does-only _ (pen-at (c .before .next-line .ensures)))
+    (does-only _ (spot-at (c .before .next-line .ensures)))
 
 returns-3 : tie.Need-returns-3
 unfolding htOf

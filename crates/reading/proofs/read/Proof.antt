@@ -60,7 +60,7 @@ read-spec =
     (λ c. rw (c .before .enum-told3 .given .1) (c .read-unit .ensures))
     (λ c. rw (c .before .enum-told4 .given .1) (c .read-group .ensures))
     (λ c. rw (c .before .enum-told5 .given .1) (c .read-actions .ensures))
-    (λ c. rw (c .before .enum-told6 .given .1) (c .read-pictures .ensures))
+    (λ c. rw (c .before .enum-told6 .given .1) (c .read-images .ensures))
     (λ c. rw (c .before .enum-told7 .given .1) (c .read-characters .ensures))
     (λ c. rw (c .before .enum-told8 .given .1) (c .read-windows .ensures))
     (λ c. rw (c .before .half .given .1))

@@ -11,8 +11,8 @@ use Rattle.turns.proofs.Turns.{characters-turn, settles-within}
 use Rattle.turns.proofs.feed_characters.Statement.{statement}
 use Rattle.turns.proofs.feed_characters.Tie as tie
 
-pen-of-requires : tie.Need-pen-of-requires
-pen-of-requires c κs =
+spot-of-requires : tie.Need-spot-of-requires
+spot-of-requires c κs =
     let start = c .before .before .before .before in
     let r = start .pre .0 .ready in
     (selected-small (start .args .g) (start .args .f .state) (r .state-ok), omega (arith, r .usable .visible-part))
@@ -27,7 +27,7 @@ run-requires c κs =
       (
         r .usable,
         (
-          rw (penned .pen-of .ensures) (view-room (start .args .g) (r .usable) s (r .state-ok) (start .pre .1 .room)),
+          rw (penned .spot-of .ensures) (view-room (start .args .g) (r .usable) s (r .state-ok) (start .pre .1 .room)),
           (inks (start .args .font .now) (s .settings) 0x20 (due .font-whole) (parts (start .args .g) s (r .state-ok) .settings) (omega arith), r .fits),
         ),
       ),
@@ -40,7 +40,7 @@ settle-requires c κs =
     let penned = running .before .before .before .before in
     let start = penned .before .before .before .before .before in
     let r = start .pre .0 .ready in
-    settles-within (start .args .g) (start .args .f .state) _ (r .usable) (r .state-ok) (rw (penned .pen-of .ensures) at (running .run .ensures .within))
+    settles-within (start .args .g) (start .args .f .state) _ (r .usable) (r .state-ok) (rw (penned .spot-of .ensures) at (running .run .ensures .within))
 
 add-t20 : tie.Need-add-t20
 add-t20 c =
@@ -63,11 +63,11 @@ returns c =
       end = ran .end;
       reached =
           rw (settling .settle .ensures)
-          (characters-turn (a .g) (a .font .now) (r .usable) (a .f) (a .mem .now) (a .piece .now) (a .i) (under (running .run .result .pen) _) (running .run .result .at)
-          (r .state-ok) (start .pre .1) (due .inside) (ran .some) (ran .end) (rw (penned .pen-of .ensures) at (ran .done)));
+          (characters-turn (a .g) (a .font .now) (r .usable) (a .f) (a .mem .now) (a .piece .now) (a .i) (under (running .run .result .spot) _) (running .run .result .at)
+          (r .state-ok) (start .pre .1) (due .inside) (ran .some) (ran .end) (rw (penned .spot-of .ensures) at (ran .done)));
     }
 
 pub feed-characters-spec : {M : Type 1} → statement M
 feed-characters-spec =
     tie.close
-    (tie.spec pen-of-requires run-requires settle-requires (λ c. search needs) add-t20 (λ c. search needs) returns)
+    (tie.spec spot-of-requires run-requires settle-requires (λ c. search needs) add-t20 (λ c. search needs) returns)

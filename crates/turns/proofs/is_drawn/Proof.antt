@@ -15,7 +15,7 @@ returns-2 c e =
     record {
       free = nothing .is-nothing .ensures (drawn .before .if2 .taken);
       has = omega arith;
-      room = tested (start .args .s) (start .args .g) _ _ _ _ false (drawn .pen-of .ensures) (c .is-too-large .ensures) (not-true _ e);
+      room = tested (start .args .s) (start .args .g) _ _ _ _ false (drawn .spot-of .ensures) (c .is-too-large .ensures) (not-true _ e);
     }
 
 pub is-drawn-spec : {M : Type 1} → statement M

@@ -1,4 +1,4 @@
--- `runs::pictures` meets its contract. The loop's invariant: what is left gives what the whole run gives. Assumes nothing.
+-- `runs::image_bytes` meets its contract. The loop's invariant: what is left gives what the whole run gives. Assumes nothing.
 use borrow.Author.Needs.{needs}
 use mathlib.Core.Path.{_≡_, refl, sym, ap, _∙_}
 use Prim.Native.Nat.{_+_, _-_, _<_, _≤_}
@@ -6,8 +6,8 @@ use native.Mathlib.Omega.{arith}
 use lib.ListN.{length}
 use borrow.Author.Tests.{eq-eqb, ne-eqb}
 use Rattle.runs.proofs.Filling.{Filling, filling-begin, next-on, next-beyond, next-down, filling-next, filling-whole, filling-end}
-use Rattle.runs.proofs.pictures.Statement.{statement}
-use Rattle.runs.proofs.pictures.Tie as tie
+use Rattle.runs.proofs.image_bytes.Statement.{statement}
+use Rattle.runs.proofs.image_bytes.Tie as tie
 
 abbrev Inv-loop : tie.InvT-loop
 Inv-loop g mem₀ p style width height column row piece from v x₀ y₀ i₀ mem x y i = Filling g p style width height column row mem₀ piece from mem x y i
@@ -85,8 +85,8 @@ returns-2 c =
     rw (c .filled-to2 .ensures)
     (filling-end (a .g) (a .p) (a .style) (a .width) (a .height) (a .column) (a .row) (a .mem .now) (a .piece .now) (a .from) (head .loop .mem) (head .loop .x) (head .loop .y) (head .loop .i) (head .loop .inv) (start .pre .1 .3) (omega arith))
 
-pub pictures-spec : {M : Type 1} → statement M
-pictures-spec =
+pub image-bytes-spec : {M : Type 1} → statement M
+image-bytes-spec =
     tie.close
     (tie.spec
     Inv-loop

@@ -1,11 +1,11 @@
--- `carry_dots::picture` meets its contract: a byte inside the range is stored, one outside is consumed. Assumes nothing.
+-- `carry_dots::image_byte` meets its contract: a byte inside the range is stored, one outside is consumed. Assumes nothing.
 use borrow.Author.Needs.{needs}
 use Prim.Native.Nat.{_+_}
 use native.Mathlib.Omega.{arith}
 use Rattle.runs.proofs.Rows.{inside-facts}
-use Rattle.carry_dots.proofs.Wrote.{pictured-in, pictured-out}
-use Rattle.carry_dots.proofs.picture.Statement.{statement}
-use Rattle.carry_dots.proofs.picture.Tie as tie
+use Rattle.carry_dots.proofs.Wrote.{image-stored-in, image-stored-out}
+use Rattle.carry_dots.proofs.image_byte.Statement.{statement}
+use Rattle.carry_dots.proofs.image_byte.Tie as tie
 
 store-requires : tie.Need-store-requires
 store-requires c κs = let start = c .before .before .before .before .before .before .before .before .before .before .before in
@@ -21,16 +21,16 @@ mark-requires c κs = let start = c .before .before .before .before .before .bef
 
 returns : tie.Need-returns
 returns c = let start = c .before .before .before .before .before .before .before .before .before .before .before .before .before .before .before in
-    pictured-in (start .args .g) (start .args .p) (start .args .style) (start .args .column) (start .args .row) (start .args .byte)
+    image-stored-in (start .args .g) (start .args .p) (start .args .style) (start .args .column) (start .args .row) (start .args .byte)
     (start .args .mem .now) (c .before .before .before .before .before .before .before .if1 .taken) (c .before .before .before .store .ensures) (c .mark .ensures)
 
 returns-2 : tie.Need-returns-2
 returns-2 c = let start = c .before .before .before .before .before .before .before .before in
-    pictured-out (start .args .g) (start .args .p) (start .args .style) (start .args .column) (start .args .row) (start .args .byte)
+    image-stored-out (start .args .g) (start .args .p) (start .args .style) (start .args .column) (start .args .row) (start .args .byte)
     (start .args .mem .now) (c .if1 .left)
 
-pub picture-spec : {M : Type 1} → statement M
-picture-spec =
+pub image-byte-spec : {M : Type 1} → statement M
+image-byte-spec =
     tie.close
     (tie.spec
     (λ c. search needs)
