@@ -86,10 +86,11 @@ pub fn fits(g: Geometry, left: u16, top: u16, width: u16, height: u16) -> bool
 fn window_ok(g: Geometry, w: Window) -> bool
     ensures { λ r. ⌜ r ≡ windowOk g w ⌝ }
 {
+    if is_blank(w) {
+        return true;
+    }
     let k = w.cursor;
-    is_blank(w)
-        | (fits(g, w.left, w.top, w.width, w.height)
-            & cursor_ok(w.width as usize, w.height as usize, k))
+    fits(g, w.left, w.top, w.width, w.height) & cursor_ok(w.width as usize, w.height as usize, k)
 }
 
 // The four user windows.

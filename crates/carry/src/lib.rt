@@ -1,5 +1,5 @@
-// Carrying: one command, and one byte of the stream, on state and memory.
-// It may use reading for what a byte completes, commands and writes for what a command does, windows for whether one is held.
+// Carrying: one command, and what a byte of the stream was read as, on state and memory.
+// It may use commands and writes for what a command does, windows for whether one is held.
 // Each contract says that what was done is what the paper's meaning says.
 use carry_state::Done;
 use paper::Command;
@@ -12,7 +12,7 @@ ghost use mathlib.Core.Path.{_≡_};
 ghost use mathlib.Core.Bool.{true};
 ghost use lib.ListN.{length};
 ghost use Rattle.paper.specs.Panel.{fontLength};
-ghost use Rattle.paper.specs.Carry.{commandOf, takeOf, byteMeans};
+ghost use Rattle.paper.specs.Carry.{commandOf, takeOf};
 ghost use Rattle.laws_bytes.specs.Readings.{commandOk, readingOk};
 ghost use Rattle.carry_dots.specs.Does.{Ready, Does};
 
@@ -50,7 +50,7 @@ fn carry_out(g: Geometry, mem: &mut [u8], font: &[u8], s: State, c: Command) -> 
 }
 
 // What a byte gave to the half-read command, taken.
-fn take(g: Geometry, mem: &mut [u8], font: &[u8], s: State, r: Reading) -> Done
+pub fn take(g: Geometry, mem: &mut [u8], font: &[u8], s: State, r: Reading) -> Done
     requires { ⌜ Ready g s (now mem) × ((length (now font) ≡ fontLength) × (readingOk g r ≡ true)) ⌝ }
     ensures { λ d. ⌜ Does g (now (mem .entry)) d (now (mem .exit)) (takeOf g (now (font .entry)) s r) ⌝ }
 {
@@ -109,14 +109,4 @@ fn take(g: Geometry, mem: &mut [u8], font: &[u8], s: State, r: Reading) -> Done
             carry_state::ends(t, Outcome::Unknown)
         }
     }
-}
-
-// One byte of the stream.
-pub fn step(g: Geometry, mem: &mut [u8], font: &[u8], s: State, b: u8) -> Done
-    requires { ⌜ Ready g s (now mem) × (length (now font) ≡ fontLength) ⌝ }
-    ensures { λ r. ⌜ Does g (now (mem .entry)) r (now (mem .exit)) (byteMeans g (now (font .entry)) s b) ⌝ }
-{
-    let half = s.half;
-    let r = reading::read(g, half, b);
-    take(g, mem, font, s, r)
 }

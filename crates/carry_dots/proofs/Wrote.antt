@@ -4,7 +4,6 @@ use mathlib.Core.Bool.{Bool, true, false, cond, _&&_}
 use mathlib.Core.List.{List, [], _∷_}
 use Prim.Native.Nat.{ℕ, _+_, _<_, _≤_}
 use lib.Dec.{ltb, eqb}
-use borrow.Author.Tests.{ltb-true}
 use Rattle.paper.specs.declared.Geometry.{Geometry}
 use Rattle.paper.specs.declared.Cursor.{Cursor}
 use Rattle.paper.specs.declared.Half.{Half}
@@ -25,7 +24,6 @@ use Rattle.carry_state.specs.declared.Done.{Done}
 use Rattle.carry_state.specs.Says.{Says, done}
 use Rattle.laws_state.specs.Room.{Kept}
 use Rattle.carry_state.proofs.Facts.{selected-small, place-small}
-use Rattle.laws_bytes.proofs.Tests.{both-of}
 use Rattle.cells.specs.Drawn.{imaged}
 use Rattle.laws_state.proofs.Parts.{parts, whole}
 use Rattle.laws_state.proofs.Builders.{half-parts}
@@ -127,10 +125,6 @@ does-erase {g} {m} s c k i f h =
       outcome = ap (λ (x : Done). x .outcome) f ∙ sym (ap (λ (x : Meaning). x .outcome) h);
       mem = c ∙ sym (ap (λ (x : Meaning). applyAll g m (x .strokes)) h);
     }
-
--- a place that passes the test lies in the range
-pub inside-facts : (x w y h : ℕ) → (ltb x w && ltb y h) ≡ true → (x < w) × (y < h)
-inside-facts x w y h t = let f = both-of (ltb x w) (ltb y h) t in (ltb-true x w (f .0), ltb-true y h (f .1))
 
 module _ (g : Geometry) (p : Spot) (y : Style) (column row b : ℕ) (m : List ℕ) where
   -- an image byte inside the range is stored

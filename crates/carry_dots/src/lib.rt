@@ -1,5 +1,5 @@
 // Writes: the commands that write on memory, and an image's byte, each with the answers 15 and 16 that it can have.
-// It may use commands for the answer's form, windows for the state, and moves, text, cells and dots for what is written.
+// It may use commands for the answer's form, windows for the state, and runs, moves, cells and dots for what is written.
 // Each contract says that what was done is what the paper's meaning says.
 use carry_state::Done;
 use moves::Spot;
@@ -12,17 +12,14 @@ use paper::Style;
 ghost use mathlib.Core.Path.{_≡_};
 ghost use mathlib.Core.List.{List};
 ghost use Prim.Native.Nat.{ℕ, _+_, _≤_, _<_};
-ghost use lib.ListN.{length, getD};
+ghost use lib.ListN.{length};
 ghost use Rattle.paper.specs.Panel.{fontLength};
-ghost use Rattle.paper.specs.Cells.{cellWidth, cellHeight};
 ghost use Rattle.paper.specs.Settings.{withView, withSpans, viewOf};
 ghost use Rattle.paper.specs.Carry.{isHeld, commandOf};
 ghost use Rattle.moves.specs.Does.{spot};
 ghost use Rattle.laws_memory.specs.Rectangles.{Fits};
-ghost use Rattle.laws_state.specs.Room.{Usable, InMemory, Room};
-ghost use Rattle.text.specs.Inked.{Inked};
+ghost use Rattle.laws_state.specs.Room.{Usable, InMemory};
 ghost use Rattle.carry_dots.specs.Does.{Ready, Does, ImageStored};
-ghost use Rattle.carry_dots.specs.Runs.{Ran, placeAfter, filled, Stocked};
 
 // ---- moves of the current window that write
 
@@ -46,44 +43,7 @@ pub fn settle(s: State, p: Spot) -> State
     State { spans, ..t }
 }
 
-// Where a run of characters ended: the spot, and the place after its last byte.
-pub struct Drawn {
-    pub spot: Spot,
-    pub at: usize,
-}
-
-// The characters of a piece from `from` on, up to the first byte that is none. It knows no state, so that the compiler need not
-// lay one down for each of them.
-pub fn run(
-    g: Geometry,
-    mem: &mut [u8],
-    font: &[u8],
-    p: Spot,
-    w: u8,
-    style: Style,
-    piece: &[u8],
-    from: usize,
-) -> Drawn
-    requires { ⌜ Usable g × (Room g (p .view) (cellWidth w style) (cellHeight style) × (Inked (now font) style 0x20 × Fits g (now mem))) ⌝ }
-    requires { ⌜ (from < length (now piece)) × (0x20 ≤ getD (now piece) from 0) ⌝ }
-    ensures { λ r. ⌜ Ran g (now (font .entry)) w style p (now (mem .entry)) (now (piece .entry)) from r (now (mem .exit)) ⌝ }
-{
-    let c = cells::cell_width(w, style);
-    let l = style.down as usize;
-    let mut q = p;
-    let mut i = from;
-    while i < piece.len() {
-        let b = piece[i];
-        if b < 0x20 {
-            return Drawn { spot: q, at: i };
-        }
-        q = text::in_line(g, mem, font, q, w, style, c, l, b);
-        i += 1;
-    }
-    Drawn { spot: q, at: i }
-}
-
-// A character.
+// A character: a run of one.
 pub fn character(g: Geometry, mem: &mut [u8], font: &[u8], s: State, code: u8) -> Done
     requires { ⌜ Ready g s (now mem) × ((length (now font) ≡ fontLength) × (0x20 ≤ code)) ⌝ }
     ensures { λ r. ⌜ Does g (now (mem .entry)) r (now (mem .exit)) (commandOf g (now (font .entry)) s (Command.Character code)) ⌝ }
@@ -95,7 +55,9 @@ pub fn character(g: Geometry, mem: &mut [u8], font: &[u8], s: State, code: u8) -
     if carry_state::is_too_large(p.view, w, style) {
         return carry_state::ends(s, Outcome::TooLarge);
     }
-    let q = text::character(g, mem, font, p, w, style, code);
+    let alone = [code];
+    let r = runs::run(g, mem, font, p, w, style, &alone, 0);
+    let q = r.spot;
     carry_state::ends(settle(s, q), Outcome::Carried)
 }
 
@@ -184,92 +146,4 @@ pub fn image_byte(
         return dots::mark(before, left, top, 1, 1);
     }
     before
-}
-
-// The place of an image's byte.
-struct Place {
-    column: u16,
-    row: u16,
-}
-
-// The place after another, column by column, top first.
-fn place_after(height: u16, column: u16, row: u16) -> Place
-    requires { ⌜ (row < height) × (column + 1 < 65536) ⌝ }
-    ensures { λ r. ⌜ r ≡ placeAfter height column row ⌝ }
-{
-    if row + 1 < height {
-        return Place {
-            column,
-            row: row + 1,
-        };
-    }
-    Place {
-        column: column + 1,
-        row: 0,
-    }
-}
-
-// Where a run of image bytes ended: the spans, the place of the image's next byte, and the place in the piece. The image is whole if
-// the column is its width.
-pub struct Filled {
-    pub spans: [Span; 2],
-    pub column: u16,
-    pub row: u16,
-    pub at: usize,
-}
-
-// A spot with other spans.
-fn with_spans(p: Spot, spans: [Span; 2]) -> Spot
-    ensures { λ r. ⌜ r ≡ spot (p .view) spans ⌝ }
-{
-    let view = p.view;
-    Spot { view, spans }
-}
-
-// Where a run ended.
-fn ended(p: Spot, column: u16, row: u16, at: usize) -> Filled
-    ensures { λ r. ⌜ r ≡ filled (p .spans) column row at ⌝ }
-{
-    let spans = p.spans;
-    Filled {
-        spans,
-        column,
-        row,
-        at,
-    }
-}
-
-// The bytes of an image in a piece from `from` on, up to the piece's end or the image's.
-pub fn image_bytes(
-    g: Geometry,
-    mem: &mut [u8],
-    p: Spot,
-    style: Style,
-    width: u16,
-    height: u16,
-    column: u16,
-    row: u16,
-    piece: &[u8],
-    from: usize,
-) -> Filled
-    requires { ⌜ Usable g × (InMemory g (p .view) × Fits g (now mem)) ⌝ }
-    requires { ⌜ (column < width) × (row < height) × (from < length (now piece)) ⌝ }
-    ensures { λ r. ⌜ Stocked g p style width height column row (now (mem .entry)) (now (piece .entry)) from r (now (mem .exit)) ⌝ }
-{
-    let mut q = p;
-    let mut x = column;
-    let mut y = row;
-    let mut i = from;
-    while i < piece.len() {
-        let spans = image_byte(g, mem, q, style, x, y, piece[i]);
-        q = with_spans(q, spans);
-        let next = place_after(height, x, y);
-        x = next.column;
-        y = next.row;
-        i += 1;
-        if x == width {
-            return ended(q, x, y, i);
-        }
-    }
-    ended(q, x, y, i)
 }

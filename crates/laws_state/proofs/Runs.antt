@@ -7,7 +7,7 @@ use native.Mathlib.Nat.{add-zero}
 use native.Mathlib.Omega.{arith}
 use lib.ListN.{length}
 use lib.Dec.{leb, ltb, eqb}
-use borrow.Author.Tests.{ltb-true, ltb-false, lt-ltb, le-ltb, eqb-true, eqb-false, eq-eqb, ne-eqb}
+use borrow.Author.Tests.{ltb-true, ltb-false, eqb-false, eq-eqb, ne-eqb}
 use Rattle.paper.specs.declared.Geometry.{Geometry}
 use Rattle.paper.specs.declared.Command.the-variants.{Character}
 use Rattle.paper.specs.declared.Half.{Half}
@@ -17,19 +17,17 @@ use Rattle.paper.specs.declared.Outcome.the-variants.{Unfinished, Carried}
 use Rattle.paper.specs.declared.Refusal.{Refusal}
 use Rattle.paper.specs.declared.Span.{Span}
 use Rattle.paper.specs.declared.State.{State}
-use Rattle.paper.specs.declared.Style.{Style}
 use Rattle.paper.specs.declared.View.{View}
-use Rattle.paper.specs.Strokes.{applyAll, markAll}
+use Rattle.paper.specs.Strokes.{markAll}
 use Rattle.paper.specs.Numbers.{outcomeNumber, carriedBy, answeredBy}
 use Rattle.paper.specs.Reading.{readFirst, readImage, readOf}
 use Rattle.paper.specs.Settings.{withHalf, withSpans, withView, cursorIn, viewOf}
 use Rattle.paper.specs.Bounds.{accepted}
-use Rattle.paper.specs.Cells.{cellWidth, cellHeight}
 use Rattle.paper.specs.Moves.{Moved, characterOf}
-use Rattle.paper.specs.Carry.{Meaning, means, asks, exceeds, moves, carriedOut, commandOf, imageStrokes, takeOf, byteMeans}
-use Rattle.paper.specs.Calls.{Feeding, feeding, settled, counted, next}
+use Rattle.paper.specs.Carry.{asks, exceeds, moves, carriedOut, commandOf, takeOf, byteMeans}
+use Rattle.paper.specs.Calls.{feeding, settled, counted, next}
 use Rattle.laws_state.specs.Room.{Usable, Room, Kept}
-use Rattle.laws_state.specs.Runs.{Reaches, here, Sheet, movedOn, writtenOn, Written, written, charactersOf, onSheet, Within, Image, storedOn, Stored, stored, imageBytesOf, halfAt, outcomeAt, doneAt, onImage}
+use Rattle.laws_state.specs.Runs.{Reaches, here, Sheet, movedOn, writtenOn, Written, written, charactersOf, onSheet, Within, Image, storedOn, Stored, stored, imageBytesOf, outcomeAt, doneAt, onImage}
 use Rattle.laws_state.proofs.Moves.{character-kept}
 use Rattle.laws_state.proofs.Views.{view-room}
 use Rattle.laws_state.proofs.Reached.{reaches-next}

@@ -1,24 +1,22 @@
 -- A state with its cursor and spans where a sheet has them: its view is the sheet's, and what a run does not change is as it was.
 -- Assumes nothing.
-use mathlib.Core.Path.{_≡_, refl, sym, ap, ap₂, _∙_}
+use mathlib.Core.Path.{_≡_, refl, sym, ap, ap₂}
 use mathlib.Core.Bool.{Bool, true, false, cond}
 use mathlib.Core.List.{List, [], _∷_}
-use Prim.Native.Nat.{ℕ, zero, suc, _+_, _-_, _<_, _≤_}
+use Prim.Native.Nat.{ℕ, zero, suc, _+_, _-_, _≤_}
 use native.Mathlib.Omega.{arith}
 use lib.ListN.{getD, set}
 use lib.Dec.{ltb, eqb}
 use borrow.Author.Tests.{ltb-false, lt-ltb, le-ltb}
 use Rattle.paper.specs.declared.Geometry.{Geometry}
 use Rattle.paper.specs.declared.Cursor.{Cursor}
-use Rattle.paper.specs.declared.Half.{Half}
-use Rattle.paper.specs.declared.Settings.{Settings}
 use Rattle.paper.specs.declared.Span.{Span}
 use Rattle.paper.specs.declared.State.{State}
 use Rattle.paper.specs.declared.View.{View}
 use Rattle.paper.specs.declared.Window.{Window}
-use Rattle.paper.specs.Settings.{noWindow, withBase, withSpans, windowAt, defined, withCursor, atCursor, cursor, view, baseView, windowView, viewOf, cursorIn, withView}
+use Rattle.paper.specs.Settings.{noWindow, withBase, withSpans, windowAt, withCursor, atCursor, cursor, view, baseView, windowView, viewOf, cursorIn, withView}
 use Rattle.paper.specs.Cells.{tooLarge}
-use Rattle.paper.specs.Carry.{exceeds, widthNow, heightNow}
+use Rattle.paper.specs.Carry.{exceeds}
 use Rattle.laws_state.specs.Runs.{Sheet, onSheet, Within}
 use Rattle.laws_state.proofs.Tests.{by-cond}
 

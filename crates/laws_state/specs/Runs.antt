@@ -1,5 +1,5 @@
 -- Bytes taken together: a run of characters, and a run of an image's bytes. Neither has a state in it. Assumes nothing.
-use mathlib.Core.Bool.{Bool, cond}
+use mathlib.Core.Bool.{cond}
 use mathlib.Core.List.{List, [], _∷_}
 use mathlib.Core.Path.{_≡_}
 use Prim.Native.Nat.{ℕ, _+_, _<_}

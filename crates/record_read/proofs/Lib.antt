@@ -1,3 +1,4 @@
 pub mod Same
 pub mod Stands
 pub mod Back
+mod Idle

@@ -2,7 +2,7 @@
 use Prim.Native.Nat.{ℕ, zero, suc, _+_, _<_, _≤_}
 use mathlib.Core.Path.{_≡_, refl, sym, ap, ap₂, _∙_}
 use mathlib.Core.List.{List, [], _∷_}
-use mathlib.Core.Bool.{Bool, true, false, _&&_, and-assoc, and-true, false≢true}
+use mathlib.Core.Bool.{Bool, true, _&&_, and-assoc, and-true, false≢true}
 use lib.ListN.{length, getD, take}
 use lib.Dec.{eqb}
 use lib.Seq.{take-all}

@@ -1,5 +1,6 @@
 -- The state that a record of 103 bytes stands for. docs/RECORD.md has the layout. Assumes nothing.
-use Prim.Native.Nat.{ℕ, _+_, _*_}
+use Prim.Native.Nat.{ℕ, _+_, _*_, _<_, _≤_}
+use mathlib.Core.Path.{_≡_}
 use mathlib.Core.Bool.{Bool, true, false, cond, _&&_}
 use mathlib.Core.List.{List, [], _∷_}
 use lib.ListN.{getD}
@@ -8,6 +9,7 @@ use Rattle.paper.specs.declared.Settings.{Settings}
 use Rattle.paper.specs.declared.Cursor.{Cursor}
 use Rattle.paper.specs.declared.Window.{Window}
 use Rattle.paper.specs.declared.Span.{Span}
+use Rattle.paper.specs.declared.Half.{Half}
 use Rattle.paper.specs.declared.Hold.{Hold}
 use Rattle.paper.specs.declared.Hold.the-variants.{Free, Held}
 use Rattle.paper.specs.declared.State.{State}
@@ -68,19 +70,27 @@ slotsAt l i =
     (wordAt l (i + 8))
     (wordAt l (i + 10))
 
-unfoldable pub decoded : List ℕ → State
-decoded l =
+-- the state of bytes, with this held and this half read
+abbrev pub decodedWith : List ℕ → Hold → Half → State
+decodedWith l hold half =
     record {
       settings = settingsAt l 0;
       windows = windowFrom l 11 ∷ windowFrom l 24 ∷ windowFrom l 37 ∷ windowFrom l 50 ∷ [];
       base = cursorAt l 63;
       selected = getD l 68 0;
-      hold = holdAt l 69;
-      half = halfOf (slotsAt l 83);
+      hold = hold;
+      half = half;
       spans = spanAt l 95 ∷ spanAt l 99 ∷ [];
     }
 
+unfoldable pub decoded : List ℕ → State
+decoded l = decodedWith l (holdAt l 69) (halfOf (slotsAt l 83))
+
 -- ---- the state that a record stands for
+
+-- the bytes of what is held and of what is half read are all 0: nothing is either
+abbrev pub Idle : List ℕ → Type 0
+Idle l = (k : ℕ) → 69 ≤ k → k < 95 → getD l k 0 ≡ 0
 
 -- whether two lists are the same
 abbrev pub same : List ℕ → List ℕ → Bool

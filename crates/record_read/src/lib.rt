@@ -1,11 +1,13 @@
 // The codec: the state that a record of 103 bytes stands for. docs/RECORD.md has the layout.
 // It uses the paper, slots for what is half read, and the encoder, to see whether the bytes are those of a state.
 ghost use mathlib.Core.Path.{_≡_};
+ghost use mathlib.Core.Bool.{true};
 ghost use Prim.Native.Nat.{_+_, _*_, _≤_};
 ghost use lib.ListN.{length};
 ghost use Rattle.record_write.specs.Bytes.{recordLength};
-ghost use Rattle.record_read.specs.Record.{wordAt, settingsAt, cursorAt, windowFrom, spanAt, holdAt, slotsAt, decoded, same, stateOf};
+ghost use Rattle.record_read.specs.Record.{wordAt, settingsAt, cursorAt, windowFrom, spanAt, holdAt, slotsAt, decodedWith, Idle, same, stateOf};
 use paper::Cursor;
+use paper::Half;
 use paper::Hold;
 use paper::Settings;
 use paper::Span;
@@ -125,10 +127,10 @@ fn slots_at(l: &[u8], i: usize) -> Slots
     }
 }
 
-// The state that any bytes give.
-fn decode(l: &[u8]) -> State
+// The state that bytes give, with this held and this half read.
+fn decode_with(l: &[u8], hold: Hold, half: Half) -> State
     requires { ⌜ length (now l) ≡ recordLength ⌝ }
-    ensures { λ s. ⌜ s ≡ decoded (now (l .entry)) ⌝ }
+    ensures { λ s. ⌜ s ≡ decodedWith (now (l .entry)) hold half ⌝ }
 {
     let settings = settings_at(l, 0);
     let a = window_from(l, 11);
@@ -136,8 +138,6 @@ fn decode(l: &[u8]) -> State
     let c = window_from(l, 37);
     let d = window_from(l, 50);
     let base = cursor_at(l, 63);
-    let hold = hold_at(l, 69);
-    let half = record_half::half_of(slots_at(l, 83));
     let p = span_at(l, 95);
     let q = span_at(l, 99);
     State {
@@ -165,12 +165,26 @@ fn is_same(a: &[u8], b: &[u8]) -> bool
     r
 }
 
-// The state that a record stands for: bytes that no state is encoded by stand for a broken one, which every call refuses.
-pub fn state_of(l: &[u8]) -> State
+// Whether the bytes of what is held and of what is half read are all 0.
+fn is_idle(l: &[u8]) -> bool
+    requires { ⌜ length (now l) ≡ recordLength ⌝ }
+    ensures { λ r. ⌜ (r ≡ true → Idle (now (l .entry))) ⌝ }
+{
+    let mut r = true;
+    for j in 69..95 {
+        r = r & (l[j] == 0);
+    }
+    r
+}
+
+// The state that a record stands for, with something held or half read: the record is compared with that state's own.
+fn busy_state_of(l: &[u8]) -> State
     requires { ⌜ length (now l) ≡ recordLength ⌝ }
     ensures { λ s. ⌜ s ≡ stateOf (now (l .entry)) ⌝ }
 {
-    let mut s = decode(l);
+    let hold = hold_at(l, 69);
+    let half = record_half::half_of(slots_at(l, 83));
+    let mut s = decode_with(l, hold, half);
     let mut again = [0u8; 103];
     record_write::encode(s, &mut again);
     if is_same(&again, l) {
@@ -178,4 +192,16 @@ pub fn state_of(l: &[u8]) -> State
     }
     s.selected = 5;
     s
+}
+
+// The state that a record stands for: bytes that no state is encoded by stand for a broken one, which every call refuses. With nothing
+// held or half read there are no such bytes.
+pub fn state_of(l: &[u8]) -> State
+    requires { ⌜ length (now l) ≡ recordLength ⌝ }
+    ensures { λ s. ⌜ s ≡ stateOf (now (l .entry)) ⌝ }
+{
+    if is_idle(l) {
+        return decode_with(l, Hold::Free, Half::Nothing);
+    }
+    busy_state_of(l)
 }

@@ -119,37 +119,3 @@ pub fn character(
     let q = blank_tab(g, mem, p, w, style);
     draw_tab(g, mem, font, q, w, style, code)
 }
-
-// The same character with its cell's size at hand, c columns and l rows: where another has room after it in the line, as most have, it is
-// drawn in place and the cursor steps on.
-pub fn in_line(
-    g: Geometry,
-    mem: &mut [u8],
-    font: &[u8],
-    p: Spot,
-    w: u8,
-    style: Style,
-    c: usize,
-    l: usize,
-    code: u8,
-) -> Spot
-    requires { ⌜ Usable g × (Room g (p .view) (cellWidth w style) (cellHeight style) × (Inked (now font) style code × Fits g (now mem))) ⌝ }
-    requires { ⌜ (c ≡ cellWidth w style) × (l ≡ cellHeight style) ⌝ }
-    ensures { λ r. ⌜ Does g (p .spans) (now (mem .entry)) r (now (mem .exit)) (characterOf g (now (font .entry)) w style code (p .view)) ⌝ }
-{
-    let v = p.view;
-    let x = v.x;
-    let y = v.y;
-    let width = v.width;
-    let height = v.height;
-    let left = v.left + x;
-    let top = v.top + y;
-    if (x + 2 * c <= width) & (y + l <= height) {
-        cells::draw(g, mem, font, code, w, style, left, top, c, l);
-        let before = p.spans;
-        let spans = dots::mark(before, left, top, c, l);
-        let view = moves::to(v, x + c, y);
-        return Spot { view, spans };
-    }
-    character(g, mem, font, p, w, style, code)
-}

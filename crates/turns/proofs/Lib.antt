@@ -1,2 +1,3 @@
 pub mod Counts
+pub mod Gathering
 pub mod Turns

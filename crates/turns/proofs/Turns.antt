@@ -1,43 +1,35 @@
 -- A turn of the loop over a piece: what a run came to is what feeding its bytes one by one comes to. Assumes nothing.
 use mathlib.Core.Path.{_≡_, refl, sym, ap, _∙_}
-use mathlib.Core.Bool.{Bool, true, false, cond}
-use mathlib.Core.List.{List, [], _∷_}
+use mathlib.Core.Bool.{true, false}
+use mathlib.Core.List.{List, _∷_}
 use Prim.Native.Nat.{ℕ, _+_, _-_, _<_, _≤_}
 use native.Mathlib.Nat.{add-zero}
 use native.Mathlib.Omega.{arith}
 use lib.ListN.{length, getD, drop, length-drop}
-use lib.Dec.{leb, ltb, eqb}
+use lib.Dec.{ltb, eqb}
 use borrow.Author.Tests.{le-leb, ltb-true}
 use Rattle.paper.specs.declared.Geometry.{Geometry}
 use Rattle.paper.specs.declared.Fed.{Fed}
 use Rattle.paper.specs.declared.Half.{Half}
 use Rattle.paper.specs.declared.Half.the-variants.{Nothing, ImageData}
-use Rattle.paper.specs.declared.Outcome.{Outcome}
 use Rattle.paper.specs.declared.Outcome.the-variants.{Unfinished, Carried}
-use Rattle.paper.specs.declared.Refusal.{Refusal}
 use Rattle.paper.specs.declared.State.{State}
 use Rattle.paper.specs.declared.View.{View}
 use Rattle.paper.specs.Bounds.{halfOk, accepted}
 use Rattle.paper.specs.Reading.{between}
-use Rattle.laws_bytes.proofs.Tests.{both-of}
+use Rattle.laws_bytes.proofs.Tests.{both-of, between-facts}
 use Rattle.carry_state.proofs.Facts.{selected-small}
 use Rattle.laws_state.proofs.Parts.{parts}
-use Rattle.paper.specs.Settings.{withHalf, withSpans, withView, viewOf}
-use Rattle.paper.specs.Calls.{Feeding, feeding, next}
+use Rattle.paper.specs.Settings.{withHalf, withSpans, viewOf}
+use Rattle.paper.specs.Calls.{feeding, next}
 use Rattle.laws_state.specs.Room.{Usable}
-use Rattle.laws_state.specs.Runs.{Reaches, here, Sheet, sheet, Written, written, charactersOf, onSheet, Within, Image, image, Stored, stored, imageBytesOf, outcomeAt, doneAt, onImage}
+use Rattle.laws_state.specs.Runs.{Reaches, Sheet, sheet, Written, written, charactersOf, onSheet, Within, Image, image, stored, imageBytesOf, outcomeAt, doneAt, onImage}
 use Rattle.laws_state.proofs.Views.{view-place}
 use Rattle.laws_state.proofs.Sheets.{view-same}
 use Rattle.laws_state.proofs.Reached.{reaches-next}
 use Rattle.laws_state.proofs.Runs.{penned, penned-within, character-next, characters-reached, image-bytes-reached}
 use Rattle.laws_state.proofs.Taken.{from-here}
-use Rattle.turns.specs.Turns.{fed}
-use Rattle.turns.specs.Turns.{Drawable}
-
--- one byte
-pub byte-turn : (g : Geometry) (font : List ℕ) (x y : Feeding) (piece : List ℕ) (i : ℕ) → i < length piece → y ≡ next g font x (getD piece i 0)
-    → Reaches g font x (drop i piece) y (drop (i + 1) piece)
-byte-turn g font x y piece i l e = rw (from-here piece i l, e) (reaches-next (getD piece i 0) refl here)
+use Rattle.turns.specs.Turns.{fed, Drawable}
 
 -- ---- characters
 
@@ -142,13 +134,13 @@ settles-within g s v u ok i =
     let p = view-place g u s ok in
     (selected-small g s ok, omega arith, omega arith)
 
--- the next byte's place is one of the image's
+-- the next byte's place is one of the image's, which is no higher than the memory
 pub image-bounds : (g : Geometry) (s : State) (width height column row : ℕ) → accepted g s ≡ true → s .half ≡ ImageData width height column row
-    → (column < width) × (row < height)
+    → (column < width) × (row < height) × (height ≤ g .rows)
 unfolding halfOk
 image-bounds g s width height column row ok e =
     let h : halfOk g (ImageData width height column row) ≡ true = rw e at (parts g s ok .half) in
     let a = both-of (between 1 (g .columns) width) _ h in
     let b = both-of (between 1 (g .rows) height) _ (a .1) in
     let c = both-of (ltb column width) (ltb row height) (b .1) in
-    (ltb-true column width (c .0), ltb-true row height (c .1))
+    (ltb-true column width (c .0), ltb-true row height (c .1), between-facts 1 (g .rows) height (b .0) .1)

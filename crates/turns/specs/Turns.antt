@@ -1,14 +1,18 @@
 -- What a turn of the loop over a piece owes. Assumes nothing.
 use mathlib.Core.Path.{_≡_}
-use mathlib.Core.Bool.{true, false}
-use mathlib.Core.List.{List}
+use mathlib.Core.Bool.{false}
+use mathlib.Core.List.{List, _∷_}
 use Prim.Native.Nat.{ℕ, _+_, _-_, _<_, _≤_}
 use lib.ListN.{length, drop}
 use Rattle.paper.specs.declared.Geometry.{Geometry}
 use Rattle.paper.specs.declared.Fed.{Fed}
+use Rattle.paper.specs.declared.Half.{Half}
 use Rattle.paper.specs.declared.Half.the-variants.{Nothing}
+use Rattle.paper.specs.declared.Reading.{Reading}
+use Rattle.paper.specs.declared.Reading.the-variants.{More}
 use Rattle.paper.specs.declared.State.{State}
 use Rattle.paper.specs.Panel.{fontLength}
+use Rattle.paper.specs.Reading.{readOf}
 use Rattle.paper.specs.Carry.{exceeds}
 use Rattle.laws_state.specs.Runs.{Reaches}
 use Rattle.carry_dots.specs.Does.{Ready}
@@ -24,6 +28,11 @@ pub record Drawable (g : Geometry) (s : State) (b : ℕ) : Type 0 where
   pub free : s .half ≡ Nothing
   pub has : 0x20 ≤ b
   pub room : exceeds g s ≡ false
+
+-- reading on with the bytes bs after a reading comes, byte by byte, to another with rest left; only a half-read command is read on
+pub data Gathers (g : Geometry) : Reading → List ℕ → Reading → List ℕ → Type 0 where
+  here : {q : Reading} {bs : List ℕ} → Gathers g q bs q bs
+  byte : {h : Half} {q r : Reading} {b : ℕ} {bs rest : List ℕ} → readOf g h b ≡ q → Gathers g q bs r rest → Gathers g (More h) (b ∷ bs) r rest
 
 -- a byte of the piece is next, and all that are left can be counted
 pub record Due (g : Geometry) (m font piece : List ℕ) (f : Fed) (i : ℕ) : Type 0 where

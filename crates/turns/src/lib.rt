@@ -1,39 +1,17 @@
-// Turns: what one turn of the loop over a piece feeds: a run of characters, a run of an image's bytes, or one byte.
-// It may use carry for one byte and writes for the runs. It alone counts what the bytes came to.
+// Turns: what one turn of the loop over a piece feeds: a run of characters, a run of an image's bytes, or the bytes of a command.
+// It may use runs for the runs, reading for what bytes complete and carry for what that does. It alone counts what the bytes came to.
 // Its contract says that feeding the bytes one by one comes to the same.
 use paper::Fed;
 use paper::Geometry;
 use paper::Half;
 use paper::Outcome;
+use paper::Reading;
 use paper::State;
 ghost use mathlib.Core.Path.{_≡_};
 ghost use mathlib.Core.Bool.{true};
 ghost use Prim.Native.Nat.{_+_, _<_, _≤_};
-ghost use lib.ListN.{length, getD};
-ghost use Rattle.paper.specs.Panel.{fontLength};
-ghost use Rattle.paper.specs.Calls.{next};
-ghost use Rattle.carry_dots.specs.Does.{Ready};
-ghost use Rattle.turns.specs.Turns.{fed, Drawable, Due, Turned};
-
-// One byte more: carried out, and counted.
-fn feed_byte(g: Geometry, mem: &mut [u8], font: &[u8], f: Fed, b: u8) -> Fed
-    requires { ⌜ Ready g (f .state) (now mem) × (length (now font) ≡ fontLength) ⌝ }
-    requires { ⌜ (f .carried + 1 < 18446744073709551616) × (f .answered + 1 < 18446744073709551616) ⌝ }
-    ensures { λ r. ⌜ fed r (now (mem .exit)) ≡ next g (now (font .entry)) (fed f (now (mem .entry))) b ⌝ }
-{
-    let before = f.state;
-    let d = carry::step(g, mem, font, before, b);
-    let state = d.state;
-    let outcome = d.outcome;
-    let refusal = f.refusal;
-    Fed {
-        refusal,
-        state,
-        carried: f.carried + numbers::carried_by(outcome),
-        answered: f.answered + numbers::answered_by(outcome),
-        outcome,
-    }
-}
+ghost use lib.ListN.{length, getD, drop};
+ghost use Rattle.turns.specs.Turns.{Gathers, Drawable, Due, Turned};
 
 // A turn of the loop over a piece: what has been fed, and the place of the next byte.
 pub struct Turn {
@@ -78,7 +56,7 @@ fn feed_characters(g: Geometry, mem: &mut [u8], font: &[u8], piece: &[u8], f: Fe
     let p = carry_dots::spot_of(g, s);
     let v = s.settings;
     let style = v.style;
-    let r = carry_dots::run(g, mem, font, p, v.width, style, piece, i);
+    let r = runs::run(g, mem, font, p, v.width, style, piece, i);
     let at = r.at;
     let q = r.spot;
     let state = carry_dots::settle(s, q);
@@ -114,7 +92,7 @@ fn feed_image(
     let v = s.settings;
     let refusal = f.refusal;
     let style = v.style;
-    let r = carry_dots::image_bytes(g, mem, p, style, width, height, column, row, piece, i);
+    let r = runs::image_bytes(g, mem, p, style, width, height, column, row, piece, i);
     let at = r.at;
     let spans = r.spans;
     if r.column == width {
@@ -149,6 +127,63 @@ fn feed_image(
     Turn { fed, at }
 }
 
+// What the bytes of a command came to: what the last of them gave, and the place after it.
+struct Gathered {
+    reading: Reading,
+    at: usize,
+}
+
+// The bytes of a command from `from` on, up to the one that completes it or the piece's end. It knows no state: one is touched once
+// for each command and not for each of its bytes.
+fn gather(g: Geometry, half: Half, piece: &[u8], from: usize) -> Gathered
+    requires { ⌜ from < length (now piece) ⌝ }
+    ensures { λ r. ⌜ (from < r .at) × (r .at ≤ length (now (piece .entry)))
+        × Gathers g (Reading.More half) (drop from (now (piece .entry))) (r .reading) (drop (r .at) (now (piece .entry))) ⌝ }
+{
+    let mut h = half;
+    let mut i = from;
+    while i < piece.len() {
+        let r = reading::read(g, h, piece[i]);
+        i += 1;
+        match r {
+            Reading::More(next) => {
+                h = next;
+            }
+            _ => {
+                return Gathered { reading: r, at: i };
+            }
+        }
+    }
+    Gathered {
+        reading: Reading::More(h),
+        at: i,
+    }
+}
+
+// The bytes of a command: carried out, and counted.
+fn feed_command(g: Geometry, mem: &mut [u8], font: &[u8], piece: &[u8], f: Fed, i: usize) -> Turn
+    requires { ⌜ Due g (now mem) (now font) (now piece) f i ⌝ }
+    ensures { λ r. ⌜ Turned g (now (font .entry)) f (now (mem .entry)) (now (piece .entry)) i r (now (mem .exit)) ⌝ }
+{
+    let before = f.state;
+    let half = before.half;
+    let r = gather(g, half, piece, i);
+    let reading = r.reading;
+    let at = r.at;
+    let d = carry::take(g, mem, font, before, reading);
+    let state = d.state;
+    let outcome = d.outcome;
+    let refusal = f.refusal;
+    let fed = Fed {
+        refusal,
+        state,
+        carried: f.carried + numbers::carried_by(outcome),
+        answered: f.answered + numbers::answered_by(outcome),
+        outcome,
+    };
+    Turn { fed, at }
+}
+
 // The byte at i, and those after it that are taken with it.
 pub fn feed_some(g: Geometry, mem: &mut [u8], font: &[u8], piece: &[u8], f: Fed, i: usize) -> Turn
     requires { ⌜ Due g (now mem) (now font) (now piece) f i ⌝ }
@@ -167,9 +202,6 @@ pub fn feed_some(g: Geometry, mem: &mut [u8], font: &[u8], piece: &[u8], f: Fed,
             column,
             row,
         } => { feed_image(g, mem, font, piece, f, width, height, column, row, i) }
-        _ => {
-            let fed = feed_byte(g, mem, font, f, b);
-            Turn { fed, at: i + 1 }
-        }
+        _ => feed_command(g, mem, font, piece, f, i),
     }
 }

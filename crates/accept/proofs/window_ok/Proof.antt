@@ -4,19 +4,22 @@ use Rattle.paper.specs.Bounds.{windowOk}
 use Rattle.accept.proofs.window_ok.Statement.{statement}
 use Rattle.accept.proofs.window_ok.Tie as tie
 
-pub window-ok-spec : {M : Type 1} → statement M
+returns : tie.Need-returns
 unfolding windowOk
+returns c = rw (← c .before .is-blank .ensures, c .if1 .taken)
+
+returns-2 : tie.Need-returns-2
+unfolding windowOk
+returns-2 c = rw (← c .before .before .before .before .before .before .is-blank .ensures, c .before .before .before .before .before .if1 .left, c .before .before .before .fits2 .ensures, c .cursor-ok .ensures)
+
+pub window-ok-spec : {M : Type 1} → statement M
 window-ok-spec =
     tie.close
     (tie.spec
     (λ c κs. tt)
+    returns
     (λ c κs. tt)
     (λ c. search needs)
     (λ c. search needs)
     (λ c κs. tt)
-    (λ c.
-    rw (
-      c .before .before .before .before .is-blank .ensures,
-      c .before .before .before .fits2 .ensures,
-      c .cursor-ok .ensures,
-    )))
+    returns-2)

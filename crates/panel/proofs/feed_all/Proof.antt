@@ -2,16 +2,15 @@
 -- Assumes nothing.
 use borrow.Author.Needs.{needs}
 use mathlib.Core.Path.{_≡_, refl, sym, ap, _∙_}
-use mathlib.Core.Bool.{true}
 use mathlib.Core.List.{List, []}
-use Prim.Native.Nat.{ℕ, zero-le, _≤_, _<_, _+_, _-_}
+use Prim.Native.Nat.{ℕ, zero-le, _≤_, _-_}
 use native.Mathlib.Omega.{arith}
 use lib.ListN.{length, drop, length-drop, drop-of-length-le}
 use Rattle.paper.specs.declared.Fed.{Fed}
 use Rattle.paper.specs.declared.State.{State}
 use Rattle.paper.specs.declared.Refusal.the-variants.{Accepted}
 use Rattle.paper.specs.Bounds.{accepted}
-use Rattle.paper.specs.Calls.{Feeding, run, fedNothing}
+use Rattle.paper.specs.Calls.{run, fedNothing}
 use Rattle.laws_state.specs.Runs.{Reaches, here}
 use Rattle.laws_state.proofs.Reached.{reaches-on, reaches-run, reaches-accepted, reaches-counts}
 use Rattle.panel.specs.Told.{fed}

@@ -1,11 +1,10 @@
 -- `turns::feed_characters` meets its contract: the run comes to what its bytes come to one by one. Assumes nothing.
 use borrow.Author.Needs.{needs}
 use native.Mathlib.Omega.{arith}
-use Rattle.paper.specs.Settings.{viewOf}
 use Rattle.carry_state.proofs.Facts.{selected-small}
 use Rattle.laws_state.proofs.Parts.{parts}
 use Rattle.laws_state.proofs.Views.{view-room}
-use Rattle.carry_dots.specs.Runs.{under}
+use Rattle.runs.specs.Runs.{under}
 use Rattle.carry_dots.proofs.Inks.{inks}
 use Rattle.turns.proofs.Turns.{characters-turn, settles-within}
 use Rattle.turns.proofs.feed_characters.Statement.{statement}

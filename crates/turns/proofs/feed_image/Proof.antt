@@ -22,7 +22,7 @@ image-bytes-requires c κs =
     let a = start .args in
     let r = start .pre .0 .ready in
     let k = image-bounds (a .g) (a .f .state) (a .width) (a .height) (a .column) (a .row) (r .state-ok) (start .pre .1) in
-    ((r .usable, (rw (penned .spot-of .ensures) (view-place (a .g) (r .usable) (a .f .state) (r .state-ok)), r .fits)), (k .0, k .1, start .pre .0 .inside))
+    ((r .usable, (rw (penned .spot-of .ensures) (view-place (a .g) (r .usable) (a .f .state) (r .state-ok)), r .fits)), (k .0, k .1, omega (arith, k .2, r .two-rows), start .pre .0 .inside))
 
 add-t33 : tie.Need-add-t33
 add-t33 c =

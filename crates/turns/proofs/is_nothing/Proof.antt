@@ -1,6 +1,6 @@
 -- `turns::is_nothing` meets its contract. Assumes nothing.
 use borrow.Author.Needs.{needs}
-use mathlib.Core.Bool.{true≢false, false≢true}
+use mathlib.Core.Bool.{false≢true}
 use Rattle.turns.proofs.is_nothing.Statement.{statement}
 use Rattle.turns.proofs.is_nothing.Tie as tie
 

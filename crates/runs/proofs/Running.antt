@@ -1,0 +1,166 @@
+-- Where the loops over characters have come to: what they hold at each turn, a turn more, and where they end. Assumes nothing.
+use mathlib.Core.Path.{_≡_, refl, sym, ap, _∙_}
+use mathlib.Core.Bool.{true, false, false≢true, _&&_}
+use mathlib.Core.List.{List, [], _∷_}
+use Prim.Native.Nat.{ℕ, _+_, _*_, _-_, _<_, _≤_}
+use native.Mathlib.Omega.{arith}
+use lib.ListN.{length, getD, drop}
+use lib.Dec.{leb}
+use borrow.Author.Tests.{leb-true, le-leb}
+use Rattle.paper.specs.declared.Geometry.{Geometry}
+use Rattle.paper.specs.declared.Style.{Style}
+use Rattle.paper.specs.Cells.{cellWidth, cellHeight}
+use Rattle.paper.specs.Moves.{to, characterOf}
+use Rattle.laws_state.specs.Room.{InMemory, Room}
+use Rattle.laws_state.specs.Runs.{writtenOn, Written, written}
+use Rattle.laws_state.proofs.Moves.{character-kept}
+use Rattle.laws_state.proofs.Runs.{within-kept, within-room}
+use Rattle.laws_state.proofs.Taken.{characters-more, characters-stop, characters-end}
+use Rattle.laws_memory.specs.Spans.{markRect}
+use Rattle.laws_memory.proofs.Tests.{eq-cases, and-parts}
+use Rattle.moves.specs.declared.Spot.{Spot}
+use Rattle.moves.specs.Does.{Does, spot}
+use Rattle.cells.specs.Drawn.{drawn}
+use Rattle.runs.specs.declared.Drawn.{Drawn}
+use Rattle.runs.specs.Runs.{under, drawnTo, penAt, Went, Ran}
+use Rattle.runs.proofs.Marks.{mark-at, mark-none, mark-beside}
+use Rattle.runs.proofs.Lines.{drawn-in-line}
+
+-- what a character did is what it does to a sheet
+on-sheet : (g : Geometry) (font : List ℕ) (w : ℕ) (y : Style) (b : ℕ) (q r : Spot) (n n′ : List ℕ)
+    → Does g (q .spans) n r n′ (characterOf g font w y b (q .view)) → under r n′ ≡ writtenOn g font w y (under q n) b
+on-sheet g font w y b q r n n′ d = rw (d .view, d .spans, d .mem)
+
+-- a place that is not the first
+past : (piece : List ℕ) (from i : ℕ) → from ≤ i → 0x20 ≤ getD piece from 0 → getD piece i 0 < 0x20 → from < i
+past piece from i l a b =
+    eq-cases from i (λ e. let f : getD piece from 0 < 0x20 = rw e b in absurd (omega arith)) (λ n. omega arith)
+
+module _ (g : Geometry) (font : List ℕ) (w : ℕ) (y : Style) (p : Spot) (m piece : List ℕ) (from : ℕ) where
+  -- nothing drawn yet
+  pub went-begin : InMemory g (p .view) → from < length piece → Went g font w y p m piece from (drawnTo p from) m
+  went-begin i l =
+      record {
+        low = omega arith;
+        high = omega arith;
+        size = refl;
+        within = record { left = refl; top = refl; width = refl; height = refl; x = i .x; y = i .y };
+        done = refl;
+      }
+
+  module _ (q : Spot) (n : List ℕ) (i : ℕ) (k : Went g font w y p m piece from (drawnTo q i) n) where
+    -- a character more
+    pub went-next : {r : Spot} {n′ : List ℕ} → Room g (p .view) (cellWidth w y) (cellHeight y) → i < length piece → 0x20 ≤ getD piece i 0
+        → Does g (q .spans) n r n′ (characterOf g font w y (getD piece i 0) (q .view)) → length n′ ≡ length n
+        → Went g font w y p m piece from (drawnTo r (i + 1)) n′
+    went-next {r} {n′} room l b d e =
+        record {
+          low = omega (arith, k .low);
+          high = omega arith;
+          size = e ∙ k .size;
+          within =
+              rw (d .view)
+              (within-kept (p .view) (q .view) (characterOf g font w y (getD piece i 0) (q .view)) (k .within)
+              (character-kept g font w y (getD piece i 0) (q .view) (within-room g (p .view) (q .view) _ _ room (k .within))));
+          done = characters-more g font w y piece i (under q n) {h′ = under r n′} l b (on-sheet g font w y (getD piece i 0) q r n n′ d) ∙ k .done;
+        }
+
+    -- a stretch more
+    pub went-on : {r : Drawn} {n′ : List ℕ} → Went g font w y q n piece i r n′ → Went g font w y p m piece from r n′
+    went-on s =
+        record {
+          low = omega (arith, k .low, s .low);
+          high = s .high;
+          size = s .size ∙ k .size;
+          within =
+              record {
+                left = s .within .left ∙ k .within .left;
+                top = s .within .top ∙ k .within .top;
+                width = s .within .width ∙ k .within .width;
+                height = s .within .height ∙ k .within .height;
+                x = rw (← k .within .width) (s .within .x);
+                y = rw (← k .within .height) (s .within .y);
+              };
+          done = s .done ∙ k .done;
+        }
+
+    -- a byte that is none
+    pub ran-stop : i < length piece → 0x20 ≤ getD piece from 0 → getD piece i 0 < 0x20 → Ran g font w y p m piece from (drawnTo q i) n
+    ran-stop l a b =
+        record {
+          some = past piece from i (k .low) a b;
+          end = k .high;
+          within = k .within;
+          done = characters-stop g font w y piece i (under q n) l b ∙ k .done;
+        }
+
+    -- the piece's end
+    pub ran-end : from < length piece → length piece ≤ i → Ran g font w y p m piece from (drawnTo q i) n
+    ran-end l e =
+        record {
+          some = omega arith;
+          end = k .high;
+          within = k .within;
+          done = characters-end g font w y piece i (under q n) e ∙ k .done;
+        }
+
+  -- ---- a line, marked once
+
+  -- the line so far: its cursor in column x, which is the spot's as long as nothing was drawn
+  pub record Lining (l : ℕ) (n : List ℕ) (x i : ℕ) : Type 0 where
+    pub went : Went g font w y p m piece from (drawnTo (penAt p l x) i) n
+    pub on : p .view .x ≤ x
+    pub begun : i ≡ from → x ≡ p .view .x
+
+  pub lining-begin : (l : ℕ) → InMemory g (p .view) → from < length piece → Lining l m (p .view .x) from
+  lining-begin l i h =
+      let none : markRect (p .view .left + p .view .x) (p .view .top + p .view .y) (p .view .x - p .view .x) l (p .spans) ≡ p .spans =
+      mark-at (p .spans) refl refl (omega arith) refl ∙ mark-none _ _ _ _ in
+      record {
+        went = rw none (went-begin i h);
+        on = omega arith;
+        begun = λ e. refl;
+      }
+
+  -- what the test says
+  pub room-for : (b x c width : ℕ) → (leb 0x20 b && leb (x + 2 * c) width) ≡ true → (0x20 ≤ b) × (x + 2 * c ≤ width)
+  room-for b x c width t =
+      let f = and-parts (leb 0x20 b) (leb (x + 2 * c) width) t in
+      (leb-true 0x20 b (f .0), leb-true (x + 2 * c) width (f .1))
+
+  module _ (l : ℕ) (n : List ℕ) (x i : ℕ) (k : Lining l n x i) where
+    -- a cell more
+    pub lining-next : {n′ : List ℕ} → Room g (p .view) (cellWidth w y) (cellHeight y) → l ≡ cellHeight y → i < length piece
+        → 0x20 ≤ getD piece i 0 → x + 2 * cellWidth w y ≤ p .view .width → p .view .y + l ≤ p .view .height
+        → n′ ≡ drawn g font (getD piece i 0) w y (p .view .left + x) (p .view .top + p .view .y) (cellWidth w y) l n
+        → length n′ ≡ length n → Lining l n′ (x + cellWidth w y) (i + 1)
+    lining-next room e h b across down d s =
+        record {
+          went =
+              went-next (penAt p l x) n i (k .went) room h b
+              (drawn-in-line g (penAt p l x .spans) n font w y (getD piece i 0) (to (p .view) x (p .view .y)) across (rw (← e) down) refl
+              (sym (mark-at (penAt p l x .spans) (omega (arith, k .on)) refl refl (sym e)
+              ∙ mark-beside (p .view .left + p .view .x) (p .view .top + p .view .y) (x - p .view .x) (cellWidth w y) l (p .spans)
+              ∙ mark-at (p .spans) refl refl (omega (arith, k .on)) refl)) (d ∙ rw e)) s;
+          on = omega (arith, k .on);
+          begun = λ f. absurd (omega (arith, k .went .low));
+        }
+
+    -- where it ends it has begun
+    pub lining-end : (c : ℕ) → 0x20 ≤ getD piece from 0 → p .view .x + 2 * c ≤ p .view .width
+        → (leb 0x20 (getD piece i 0) && leb (x + 2 * c) (p .view .width)) ≡ false → from < i
+    lining-end c b h t =
+        eq-cases from i
+        (λ e. absurd (false≢true (sym t ∙ rw (← e, k .begun (sym e), le-leb 0x20 (getD piece from 0) b, le-leb (p .view .x + 2 * c) (p .view .width) h))))
+        (λ n. omega (arith, k .went .low))
+
+-- a run of one character does what the character does
+pub ran-one : (g : Geometry) (font : List ℕ) (w : ℕ) (y : Style) (p : Spot) (m : List ℕ) (code : ℕ) (r : Drawn) (m′ : List ℕ) → 0x20 ≤ code
+    → Ran g font w y p m (code ∷ []) 0 r m′ → Does g (p .spans) m (r .spot) m′ (characterOf g font w y code (p .view))
+ran-one g font w y p m code r m′ h d =
+    let e : written (under (r .spot) m′) (drop (r .at) (code ∷ [])) ≡ written (writtenOn g font w y (under p m) code) [] = d .done ∙ rw (le-leb 0x20 code h) in
+    record {
+      view = ap (λ (t : Written). t .on .view) e;
+      spans = ap (λ (t : Written). t .on .spans) e;
+      mem = ap (λ (t : Written). t .on .mem) e;
+    }

@@ -1,0 +1,30 @@
+-- `runs::mark_row` meets its contract. Assumes nothing.
+use borrow.Author.Needs.{needs}
+use native.Mathlib.Omega.{arith}
+use Rattle.runs.specs.Runs.{rowMark}
+use Rattle.runs.proofs.mark_row.Statement.{statement}
+use Rattle.runs.proofs.mark_row.Tie as tie
+
+returns : tie.Need-returns
+unfolding rowMark
+returns c = rw (c .mark .ensures, c .before .before .before .least4 .ensures, c .before .before .before .before .before .least3 .ensures, c .before .before .before .before .before .before .before .least2 .ensures, c .before .before .before .before .before .before .before .before .before .least .ensures)
+
+pub mark-row-spec : {M : Type 1} → statement M
+mark-row-spec =
+    tie.close
+    (tie.spec
+    (λ c. omega arith)
+    (λ c κs. search needs)
+    (λ c. omega arith)
+    (λ c κs. search needs)
+    (λ c. omega arith)
+    (λ c κs. search needs)
+    (λ c. omega arith)
+    (λ c. omega arith)
+    (λ c κs. search needs)
+    (λ c. search needs)
+    (λ c. search needs)
+    (λ c. search needs)
+    (λ c. search needs)
+    (λ c κs. search needs)
+    returns)

@@ -1,0 +1,58 @@
+-- `turns::gather` meets its contract. The loop's invariant: the bytes so far leave the command half read. Assumes nothing.
+use borrow.Author.Needs.{needs}
+use mathlib.Core.Path.{sym, _∙_}
+use Prim.Native.Nat.{_+_, _-_, _<_, _≤_}
+use native.Mathlib.Omega.{arith}
+use lib.ListN.{length, drop}
+use Rattle.paper.specs.declared.Reading.the-variants.{More}
+use Rattle.turns.specs.Turns.{Gathers, here}
+use Rattle.turns.proofs.Gathering.{gathers-read}
+use Rattle.turns.proofs.gather.Statement.{statement}
+use Rattle.turns.proofs.gather.Tie as tie
+
+abbrev Inv-loop : tie.InvT-loop
+Inv-loop g piece from h₀ i₀ h i = (from ≤ i) × (i ≤ length piece) × Gathers g (More h₀) (drop from piece) (More h) (drop i piece)
+
+abbrev μ-loop : tie.MeasureT-loop
+μ-loop g piece from h₀ i₀ h i = length piece - i
+
+-- a byte more can be counted
+countable : (c : tie.In-loop Inv-loop μ-loop) → c .before .loop .i + 1 < 18446744073709551616
+countable c = omega arith
+
+loop-again : tie.Need-loop-again Inv-loop μ-loop
+loop-again c =
+    let head = c .before .before .before .before .before .before in
+    let a = c .before .before .before .before .before .before .before .before .args in (
+      omega (arith, head .loop .inv .0),
+      omega arith,
+      gathers-read (a .piece .now) (head .loop .i) (omega arith) (head .loop .inv .2) (sym (c .before .r .given .1) ∙ c .before .before .before .read .ensures),
+    )
+
+returns : tie.Need-returns Inv-loop μ-loop
+returns c =
+    let head = c .before .before .before .before in
+    let a = c .before .before .before .before .before .before .args in (
+      omega (arith, head .loop .inv .0),
+      omega arith,
+      gathers-read (a .piece .now) (head .loop .i) (omega arith) (head .loop .inv .2) (c .before .read .ensures),
+    )
+
+returns-2 : tie.Need-returns-2 Inv-loop μ-loop
+returns-2 c = let k = c .before .loop .inv in (omega arith, k .1, k .2)
+
+pub gather-spec : {M : Type 1} → statement M
+gather-spec =
+    tie.close
+    (tie.spec
+    Inv-loop
+    μ-loop
+    (λ c. (omega arith, omega arith, here))
+    (λ c. omega arith)
+    (λ c κs. search needs)
+    (λ c. omega (arith, countable (c .before .before)))
+    (λ c. search needs)
+    (λ c. omega arith)
+    loop-again
+    returns
+    returns-2)
