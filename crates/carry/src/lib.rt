@@ -1,5 +1,5 @@
 // Carrying: one command, and what a byte of the stream was read as, on state and memory.
-// It may use commands and writes for what a command does, windows for whether one is held.
+// It may use carry_state and carry_dots for what a command does, state for whether a window is held.
 // Each contract says that what was done is what the paper's meaning says.
 use carry_state::Done;
 use paper::Command;

@@ -1,5 +1,5 @@
-// Writes: the commands that write on memory, and an image's byte, each with the answers 15 and 16 that it can have.
-// It may use commands for the answer's form, windows for the state, and runs, moves, cells and dots for what is written.
+// Carrying out what writes: the commands that write on memory, and an image's byte, each with the answers 15 and 16 that it can have.
+// It may use carry_state for the answer's form, state for the state's parts, and runs, moves, cells and dots for what is written.
 // Each contract says that what was done is what the paper's meaning says.
 use carry_state::Done;
 use moves::Spot;

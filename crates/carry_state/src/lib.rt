@@ -1,5 +1,5 @@
-// Commands: those that change the state and write nothing, each with its answers 14, 15, 11, 17, 16 in their order.
-// It may use windows for the state's parts and moves and cells for where a cursor goes; it knows nothing of memory.
+// Carrying out what writes nothing: the commands that change the state alone, each with its answers 14, 15, 11, 17, 16 in their order.
+// It may use state for the state's parts and moves and cells for where a cursor goes; it knows nothing of memory.
 // Each contract says that the state and the outcome are those of the paper's meaning, and that the meaning has no strokes.
 use paper::Command;
 use paper::Cursor;

@@ -1,6 +1,6 @@
 // Dots: the memory as bytes at rows·x + y. Rectangles are cleared and moved, spans grow and are copied to the glass.
 // Each contract gives the whole memory, or the whole glass, afterwards.
-// It may use the paper and the spans' growth, and it knows nothing of characters, windows or the state.
+// It may use the paper, the laws of the memory and the spans' growth, and it knows nothing of characters, windows or the state.
 use paper::Geometry;
 use paper::Span;
 ghost use mathlib.Core.Path.{_≡_};

@@ -1,5 +1,5 @@
 // The panel: document 01's five calls, and the loop over a piece. No call has a `requires`.
-// It may use accept for the state's test, turns for some bytes of a piece, dots for the glass, windows for the initial state.
+// It may use accept for the state's test, turns for some bytes of a piece, dots for the glass, state for the initial one.
 // Each call's contract is one line: what it answers and leaves is the paper's definition of that call.
 use paper::Answer;
 use paper::Fed;

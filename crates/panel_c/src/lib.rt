@@ -1,5 +1,5 @@
 // The C face: document 01's five calls over byte slices, the state as a record of 103 bytes. No call has a `requires`.
-// It may use the panel's calls, the codec for the record read and the encoder for the record written. include/panel.h declares it.
+// It may use the panel's calls, record_read and record_write for the record, numbers for the answers. include/panel.h declares it.
 // Each contract is one line: what a call answers and leaves is the definition of that call in specs/Face.antt.
 use paper::Refusal;
 use paper::State;

@@ -1,5 +1,5 @@
-// The codec: the state that a record of 103 bytes stands for. docs/RECORD.md has the layout.
-// It uses the paper, slots for what is half read, and the encoder, to see whether the bytes are those of a state.
+// The record read: the state that a record of 103 bytes stands for. docs/RECORD.md has the layout.
+// It uses the paper, record_half for what is half read, and record_write, to see whether the bytes are those of a state.
 ghost use mathlib.Core.Path.{_≡_};
 ghost use mathlib.Core.Bool.{true};
 ghost use Prim.Native.Nat.{_+_, _*_, _≤_};

@@ -1,5 +1,5 @@
-// The encoder: a state as a record of 103 bytes, for C. docs/RECORD.md has the layout.
-// It uses the paper, and slots for what is half read.
+// The record written: a state as a record of 103 bytes, for C. docs/RECORD.md has the layout.
+// It uses the paper, and record_half for what is half read.
 ghost use mathlib.Core.Path.{_≡_};
 ghost use Prim.Native.Nat.{_+_, _≤_};
 ghost use lib.ListN.{length};

@@ -1,4 +1,4 @@
-// Windows: what commands do to the state alone: settings and their domains, user windows, the current window's cursor, the
+// The state: what commands do to the state alone: settings and their domains, user windows, the current window's cursor, the
 // range in which a command works. It may use the paper alone, and it knows nothing of memory or of how bytes are read.
 // Each contract is the paper's definition of the same name.
 use paper::Cursor;

@@ -1,5 +1,5 @@
 // A command's line in a trace: its place in the stream, its bytes, its kind, the number and words of its outcome, and the current
-// window with its cursor. It is put into a lent buffer. It uses the paper, text put into a buffer, the kinds, and windows for the cursor.
+// window with its cursor. It is put into a lent buffer. It uses the paper, text put into a buffer, the kinds, and state for the cursor.
 use paper::Cursor;
 use paper::Outcome;
 use paper::State;
