@@ -100,7 +100,7 @@ fn next_line_up(g: Geometry, mem: &mut [u8], p: Pen, l: usize) -> Pen
 }
 
 // The cursor's rows move left until a cell fits at the right end.
-fn push_left(g: Geometry, mem: &mut [u8], p: Pen, c: usize, l: usize) -> Pen
+pub fn push_left(g: Geometry, mem: &mut [u8], p: Pen, c: usize, l: usize) -> Pen
     requires { ⌜ Usable g × (Room g (p .view) c l × ((p .view .width < p .view .x + 2 * c) × Fits g (now mem))) ⌝ }
     ensures { λ r. ⌜ Does g (p .spans) (now (mem .entry)) r (now (mem .exit)) (pushLeft g (p .view) c l) ⌝ }
 {
