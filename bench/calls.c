@@ -1,5 +1,9 @@
-/* The calls from C (include/panel.h), measured against the second program's: streams fed and refreshed, the state's size, the
- * deepest stack. Memories, glasses and counts are compared before the timing. */
+/* The calls from C (include/panel.h), measured against the second program's: streams fed and refreshed, a call by itself, the
+ * state's size, the deepest stack. Memories, glasses and counts are compared before the timing. Built with -DEARLIER=SIZE the other
+ * side is not the second program but an archive of an earlier commit, its calls named earlier_panel_start and so on.
+ *   calls                      the tables
+ *   calls count ROW SIDE TIMES does a row's work so often on one side (0: proved, 1: the other) and times nothing, so that an
+ *                              emulator can count its instructions; it prints the row's name and the bytes of one time */
 #include "measure.h"
 #include "../include/panel.h"
 #include "../second/panel.h"
@@ -15,7 +19,6 @@ struct lent {
 
 static struct lent ours, theirs;
 static uint8_t record[PANEL_STATE], font[PANEL_FONT];
-static second_state state;
 
 enum call { START, FEED, HOLD, RELEASE, REFRESH, CALLS };
 
@@ -57,6 +60,53 @@ CALL our_refresh(void)
     ours.counted += panel_refresh(record, sizeof record, ours.memory, sizeof ours.memory, ours.glass, sizeof ours.glass).moved;
 }
 
+#ifdef EARLIER
+#define OTHER "earlier"
+#define OTHER_STATE EARLIER
+static uint8_t earlier[EARLIER];
+
+uint32_t earlier_panel_start(uint8_t *state, size_t n, uint8_t *memory, size_t memory_n);
+PanelFed earlier_panel_feed(uint8_t *state, size_t n, uint8_t *memory, size_t memory_n, const uint8_t *font, size_t font_n,
+                            const uint8_t *piece, size_t piece_n);
+uint32_t earlier_panel_hold(uint8_t *state, size_t n, size_t window);
+uint32_t earlier_panel_release(uint8_t *state, size_t n);
+PanelRefreshed earlier_panel_refresh(uint8_t *state, size_t n, const uint8_t *memory, size_t memory_n, uint8_t *glass, size_t glass_n);
+
+CALL their_start(void)
+{
+    HERE;
+    theirs.counted += earlier_panel_start(earlier, sizeof earlier, theirs.memory, sizeof theirs.memory);
+}
+
+CALL their_feed(const uint8_t *piece, size_t length)
+{
+    HERE;
+    PanelFed f = earlier_panel_feed(earlier, sizeof earlier, theirs.memory, sizeof theirs.memory, font, sizeof font, piece, length);
+    theirs.counted += f.carried + f.answered;
+}
+
+CALL their_hold(void)
+{
+    HERE;
+    theirs.counted += earlier_panel_hold(earlier, sizeof earlier, 1);
+}
+
+CALL their_release(void)
+{
+    HERE;
+    theirs.counted += earlier_panel_release(earlier, sizeof earlier);
+}
+
+CALL their_refresh(void)
+{
+    HERE;
+    theirs.counted += earlier_panel_refresh(earlier, sizeof earlier, theirs.memory, sizeof theirs.memory, theirs.glass, sizeof theirs.glass).moved;
+}
+#else
+#define OTHER "second"
+#define OTHER_STATE sizeof state
+static second_state state;
+
 CALL their_start(void)
 {
     HERE;
@@ -90,12 +140,13 @@ CALL their_refresh(void)
     second_refresh(&state, theirs.memory, sizeof theirs.memory, theirs.glass, sizeof theirs.glass, &moved);
     theirs.counted += moved;
 }
+#endif
 
 static struct side {
     void (*start)(void), (*feed)(const uint8_t *, size_t), (*hold)(void), (*release)(void), (*refresh)(void);
     size_t deepest[CALLS];
 } panel = {our_start, our_feed, our_hold, our_release, our_refresh, {0}},
-  second = {their_start, their_feed, their_hold, their_release, their_refresh, {0}};
+  other = {their_start, their_feed, their_hold, their_release, their_refresh, {0}};
 
 /* ---- the stream that is fed now */
 static uint8_t piece[4096];
@@ -130,7 +181,7 @@ static void fill(void)
     memset(&ours, 0, sizeof ours);
     theirs = ours;
     panel.start();
-    second.start();
+    other.start();
 }
 
 static void same(const char *name)
@@ -191,18 +242,29 @@ static void look_at_all(struct side *side)
     }
 }
 
-/* ---- the runs */
-#define STREAM(name, way)                                     \
-    do {                                                      \
-        MEASURE(name, 50, length, way(&panel), way(&second)); \
-        look(&panel, FEED);                                   \
-        look(&second, FEED);                                  \
-    } while (0)
+/* ---- the rows: what is fed, and how */
+static void feed_nothing(const struct side *side)
+{
+    side->feed(piece, 0);
+}
+
+static void refresh(const struct side *side)
+{
+    side->refresh();
+}
 
 static void put_text(void)
 {
     for (length = 0; length < 1024; length++)
         piece[length] = (uint8_t)(0x20 + length * 7 % 200);
+}
+
+static void put_lines(void)
+{
+    length = 0;
+    PUT("\x1F\x02");
+    while (length < 1000)
+        PUT("LANE 4  00:58.31");
 }
 
 static void put_mixed(void)
@@ -212,63 +274,107 @@ static void put_mixed(void)
         PUT("\x1F$\x05\0\x01\0" "A\x0A\x1Fr\x01" "12\x1Fr\0\x1Fw\x01 x\x1Fw\0\x1F(w\x02\x01\x01\x0A\0\0\0\x0E\0\x01\0\x11 3\x0D\x08\x10\x0C");
 }
 
-static void streams(void)
+static void put_digits(void)
 {
-    HEADING("a byte of a stream", "second");
-
-    put_text();
-    STREAM("text, MD1", feed_whole);
-
-    length = 0;
-    PUT("\x1F\x02");
-    while (length < 1000)
-        PUT("LANE 4  00:58.31");
-    STREAM("text, MD2", feed_whole);
-
-    put_mixed();
-    STREAM("mixed commands", feed_whole);
-
     length = 0;
     PUT("\x1F(g@\x04\x02");
     while (length < 600)
         PUT("\x0B" "1234");
-    STREAM("enlarged digits", feed_whole);
+}
 
+static void put_images(void)
+{
     length = 0;
     for (int i = 0; i < 6; i++) {
         PUT("\x1F(f\x11\x40\0\x02\0\x01");
         for (int j = 0; j < 128; j++)
             put(&j, 1);
     }
-    STREAM("images", feed_whole);
+}
 
+static void put_line_feeds(void)
+{
     length = 0;
     PUT("\x1F\x02");
     while (length < 200)
         PUT("\x0A");
-    STREAM("scrolling, MD2 line feeds", feed_whole);
+}
 
+static void put_pushed(void)
+{
     length = 0;
     PUT("\x1F\x03");
     while (length < 400)
         PUT("LANE 4  00:58.31");
-    STREAM("scrolling, MD3", feed_whole);
-
-    put_text();
-    STREAM("text, refresh each 64 bytes", feed_and_refresh);
-
-    put_mixed();
-    STREAM("mixed, refresh each 64 bytes", feed_and_refresh);
 }
 
-int main(void)
+static void put_home(void)
 {
+    length = 0;
+    PUT("\x0B");
+}
+
+static const struct row {
+    const char *name;
+    void (*put)(void);
+    void (*way)(const struct side *);
+} rows[] = {
+    {"text, MD1", put_text, feed_whole},
+    {"text, MD2", put_lines, feed_whole},
+    {"mixed commands", put_mixed, feed_whole},
+    {"enlarged digits", put_digits, feed_whole},
+    {"images", put_images, feed_whole},
+    {"scrolling, MD2 line feeds", put_line_feeds, feed_whole},
+    {"scrolling, MD3", put_pushed, feed_whole},
+    {"text, refresh each 64 bytes", put_text, feed_and_refresh},
+    {"mixed, refresh each 64 bytes", put_mixed, feed_and_refresh},
+    /* a call by itself: one byte, or none */
+    {"an empty feed", put_home, feed_nothing},
+    {"a feed of one byte", put_home, feed_whole},
+    {"an empty refresh", put_home, refresh},
+};
+
+enum { ROWS = sizeof rows / sizeof rows[0], STREAMS = ROWS - 3 };
+
+static void measure(const struct row *row)
+{
+    row->put();
+    const unsigned times = length < 64 ? 2500 : 50; /* a round is long enough to be timed */
+    MEASURE(row->name, times, length, row->way(&panel), row->way(&other));
+    look(&panel, FEED);
+    look(&other, FEED);
+}
+
+/* Nothing is timed: the work of one row, for whoever counts instructions. */
+static int count(const char *row, const char *side, const char *times)
+{
+    const size_t n = strtoul(row, NULL, 10);
+    if (n >= ROWS)
+        return 1;
+    rows[n].put();
+    fill();
+    for (unsigned long left = strtoul(times, NULL, 10); left; left--)
+        rows[n].way(*side == '0' ? &panel : &other);
+    printf("%-34s %zu\n", rows[n].name, length);
+    return 0;
+}
+
+int main(int words, char **word)
+{
+    if (words == 5 && !strcmp(word[1], "count"))
+        return count(word[2], word[3], word[4]);
     look_at_all(&panel);
-    look_at_all(&second);
-    streams();
-    printf("\n%-34s %11s %11s\n", "bytes", "proved", "second");
-    printf("%-34s %11d %11zu\n", "state", PANEL_STATE, sizeof state);
+    look_at_all(&other);
+    HEADING("a byte of a stream", OTHER);
+    for (size_t i = 0; i < STREAMS; i++)
+        measure(&rows[i]);
+    printf("\n");
+    HEADING("a call by itself", OTHER);
+    for (size_t i = STREAMS; i < ROWS; i++)
+        measure(&rows[i]);
+    printf("\n%-34s %11s %11s\n", "bytes", "proved", OTHER);
+    printf("%-34s %11d %11zu\n", "state", PANEL_STATE, (size_t)OTHER_STATE);
     for (enum call call = START; call < CALLS; call++)
-        printf("deepest stack, %-19s %11zu %11zu\n", names[call], panel.deepest[call], second.deepest[call]);
+        printf("deepest stack, %-19s %11zu %11zu\n", names[call], panel.deepest[call], other.deepest[call]);
     return 0;
 }

@@ -1,5 +1,5 @@
 // Carrying out what writes: the commands that write on memory, and an image's byte, each with the answers 15 and 16 that it can have.
-// It may use carry_state for the answer's form, state for the state's parts, and runs, moves, cells and dots for what is written.
+// It may use carry_state for the answer's form, state for the state's parts, and moves, text, cells and dots for what is written.
 // Each contract says that what was done is what the paper's meaning says.
 use carry_state::Done;
 use moves::Spot;
@@ -43,7 +43,7 @@ pub fn settle(s: State, p: Spot) -> State
     State { spans, ..t }
 }
 
-// A character: a run of one.
+// A character.
 pub fn character(g: Geometry, mem: &mut [u8], font: &[u8], s: State, code: u8) -> Done
     requires { ⌜ Ready g s (now mem) × ((length (now font) ≡ fontLength) × (0x20 ≤ code)) ⌝ }
     ensures { λ r. ⌜ Does g (now (mem .entry)) r (now (mem .exit)) (commandOf g (now (font .entry)) s (Command.Character code)) ⌝ }
@@ -55,9 +55,7 @@ pub fn character(g: Geometry, mem: &mut [u8], font: &[u8], s: State, code: u8) -
     if carry_state::is_too_large(p.view, w, style) {
         return carry_state::ends(s, Outcome::TooLarge);
     }
-    let alone = [code];
-    let r = runs::run(g, mem, font, p, w, style, &alone, 0);
-    let q = r.spot;
+    let q = text::character(g, mem, font, p, w, style, code);
     carry_state::ends(settle(s, q), Outcome::Carried)
 }
 

@@ -100,7 +100,7 @@ fn next_line_up(g: Geometry, mem: &mut [u8], p: Spot, l: usize) -> Spot
 }
 
 // The cursor's rows move left until a cell fits at the right end.
-fn push_left(g: Geometry, mem: &mut [u8], p: Spot, c: usize, l: usize) -> Spot
+pub fn push_left(g: Geometry, mem: &mut [u8], p: Spot, c: usize, l: usize) -> Spot
     requires { ⌜ Usable g × (Room g (p .view) c l × ((p .view .width < p .view .x + 2 * c) × Fits g (now mem))) ⌝ }
     ensures { λ r. ⌜ Does g (p .spans) (now (mem .entry)) r (now (mem .exit)) (pushLeft g (p .view) c l) ⌝ }
 {

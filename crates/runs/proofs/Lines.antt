@@ -1,17 +1,19 @@
--- A character that stands in a line with room for another after it: drawn whole, and the cursor a cell further. Assumes nothing.
-use mathlib.Core.Path.{_≡_, _∙_}
+-- A character that stands in a line with room for another after it: drawn whole, and the cursor a cell further. And one in MD3's last
+-- cell: drawn whole, and the line pushed left. Assumes nothing.
+use mathlib.Core.Path.{_≡_, refl, _∙_}
 use mathlib.Core.Bool.{true, _&&_}
 use mathlib.Core.List.{List, []}
-use Prim.Native.Nat.{ℕ, _+_, _*_, _-_, _≤_, min}
+use Prim.Native.Nat.{ℕ, _+_, _*_, _-_, _<_, _≤_, min}
+use native.Mathlib.Nat.{min-eq-left}
 use native.Mathlib.Omega.{arith}
-use lib.Dec.{leb}
-use borrow.Author.Tests.{leb-true, le-leb}
+use lib.Dec.{leb, ltb, eqb}
+use borrow.Author.Tests.{leb-true, ltb-true, eqb-true, le-leb, lt-leb, ne-eqb}
 use Rattle.paper.specs.declared.Geometry.{Geometry}
 use Rattle.paper.specs.declared.Span.{Span}
 use Rattle.paper.specs.declared.Style.{Style}
 use Rattle.paper.specs.declared.View.{View}
 use Rattle.paper.specs.Cells.{cellWidth, cellHeight, drawStroke}
-use Rattle.paper.specs.Moves.{to, htOf, drawTab, characterOf}
+use Rattle.paper.specs.Moves.{to, pushLeft, htOf, drawTab, characterOf}
 use Rattle.cells.specs.Drawn.{drawn}
 use Rattle.cells.proofs.Strokes.{drawn-stroke}
 use Rattle.laws_memory.specs.Spans.{markRect}
@@ -50,3 +52,36 @@ module _ (g : Geometry) (ps : List Span) (m font : List ℕ) (w : ℕ) (y : Styl
       rw (le-leb (v .x + cellWidth w y) (v .width) (omega arith))
       (stroke-tab {qs = qs} {m₁ = m₁} (drawStroke font w y code v) v (cellWidth w y) (cellHeight y) (rw (whole-width, whole-height) k)
       (d ∙ rw (← drawn-stroke g m y v font w code, whole-width, whole-height)) (rw steps-on (does-only _ e)))
+
+-- what the test for MD3's last cell says
+pub last-cell : (mode x c width y l height : ℕ) → (eqb mode 3 && (ltb width (x + 2 * c) && (leb (x + c) width && leb (y + l) height))) ≡ true
+    → (mode ≡ 3) × (width < x + 2 * c) × (x + c ≤ width) × (y + l ≤ height)
+last-cell mode x c width y l height e =
+    let f = and-parts (eqb mode 3) _ e in
+    let g = and-parts (ltb width (x + 2 * c)) _ (f .1) in
+    let h = and-parts (leb (x + c) width) (leb (y + l) height) (g .1) in
+    (eqb-true mode 3 (f .0), ltb-true width (x + 2 * c) (g .0), leb-true (x + c) width (h .0), leb-true (y + l) height (h .1))
+
+module _ (g : Geometry) (ps : List Span) (m font : List ℕ) (w : ℕ) (y : Style) (code : ℕ) (v : View) (third : v .mode ≡ 3)
+    (full : v .width < v .x + 2 * cellWidth w y) (across : v .x + cellWidth w y ≤ v .width) (down : v .y + cellHeight y ≤ v .height) where
+  -- HT pushes the line left
+  pushes : htOf g v (cellWidth w y) (cellHeight y) ≡ pushLeft g v (cellWidth w y) (cellHeight y)
+  unfolding htOf
+  pushes =
+      rw (lt-leb (v .x + 2 * cellWidth w y) (v .width) full, ne-eqb (v .mode) 1 (omega arith), ne-eqb (v .mode) 2 (omega arith))
+
+  cell-width : min (cellWidth w y) (v .width - v .x) ≡ cellWidth w y
+  cell-width = omega arith
+
+  cell-height : min (cellHeight y) (v .height - v .y) ≡ cellHeight y
+  cell-height = omega arith
+
+  pub drawn-pushed : {r : Spot} {qs : List Span} {m₁ m₂ : List ℕ}
+      → qs ≡ markRect (v .left + v .x) (v .top + v .y) (cellWidth w y) (cellHeight y) ps
+      → m₁ ≡ drawn g font code w y (v .left + v .x) (v .top + v .y) (cellWidth w y) (cellHeight y) m
+      → Does g qs m₁ r m₂ (pushLeft g v (cellWidth w y) (cellHeight y)) → Does g ps m r m₂ (characterOf g font w y code v)
+  unfolding characterOf drawTab
+  drawn-pushed {qs} {m₁} k d push =
+      rw (le-leb (v .x + cellWidth w y) (v .width) across)
+      (stroke-tab {qs = qs} {m₁ = m₁} (drawStroke font w y code v) v (cellWidth w y) (cellHeight y) (rw (cell-width, cell-height) k)
+      (d ∙ rw (← drawn-stroke g m y v font w code, cell-width, cell-height)) (rw pushes push))

@@ -1,7 +1,7 @@
 -- Where the loops over characters have come to: what they hold at each turn, a turn more, and where they end. Assumes nothing.
 use mathlib.Core.Path.{_≡_, refl, sym, ap, _∙_}
 use mathlib.Core.Bool.{true, false, false≢true, _&&_}
-use mathlib.Core.List.{List, [], _∷_}
+use mathlib.Core.List.{List}
 use Prim.Native.Nat.{ℕ, _+_, _*_, _-_, _<_, _≤_}
 use native.Mathlib.Omega.{arith}
 use lib.ListN.{length, getD, drop}
@@ -12,7 +12,7 @@ use Rattle.paper.specs.declared.Style.{Style}
 use Rattle.paper.specs.Cells.{cellWidth, cellHeight}
 use Rattle.paper.specs.Moves.{to, characterOf}
 use Rattle.laws_state.specs.Room.{InMemory, Room}
-use Rattle.laws_state.specs.Runs.{writtenOn, Written, written}
+use Rattle.laws_state.specs.Runs.{Sheet, writtenOn, charactersOf, Within}
 use Rattle.laws_state.proofs.Moves.{character-kept}
 use Rattle.laws_state.proofs.Runs.{within-kept, within-room}
 use Rattle.laws_state.proofs.Taken.{characters-more, characters-stop, characters-end}
@@ -153,14 +153,3 @@ module _ (g : Geometry) (font : List ℕ) (w : ℕ) (y : Style) (p : Spot) (m pi
         eq-cases from i
         (λ e. absurd (false≢true (sym t ∙ rw (← e, k .begun (sym e), le-leb 0x20 (getD piece from 0) b, le-leb (p .view .x + 2 * c) (p .view .width) h))))
         (λ n. omega (arith, k .went .low))
-
--- a run of one character does what the character does
-pub ran-one : (g : Geometry) (font : List ℕ) (w : ℕ) (y : Style) (p : Spot) (m : List ℕ) (code : ℕ) (r : Drawn) (m′ : List ℕ) → 0x20 ≤ code
-    → Ran g font w y p m (code ∷ []) 0 r m′ → Does g (p .spans) m (r .spot) m′ (characterOf g font w y code (p .view))
-ran-one g font w y p m code r m′ h d =
-    let e : written (under (r .spot) m′) (drop (r .at) (code ∷ [])) ≡ written (writtenOn g font w y (under p m) code) [] = d .done ∙ rw (le-leb 0x20 code h) in
-    record {
-      view = ap (λ (t : Written). t .on .view) e;
-      spans = ap (λ (t : Written). t .on .spans) e;
-      mem = ap (λ (t : Written). t .on .mem) e;
-    }

@@ -12,9 +12,11 @@ ghost use Prim.Native.Nat.{_+_, _*_, _^_, _≤_, _<_};
 ghost use lib.ListN.{length, getD};
 ghost use Rattle.paper.specs.Strokes.{applyAll};
 ghost use Rattle.paper.specs.Cells.{cellWidth, cellHeight};
+ghost use Rattle.paper.specs.Moves.{characterOf};
 ghost use Rattle.paper.specs.Carry.{imageStrokes};
 ghost use Rattle.laws_memory.specs.Rectangles.{Fits};
 ghost use Rattle.laws_state.specs.Room.{Usable, InMemory, Room};
+ghost use Rattle.moves.specs.Does.{Does};
 ghost use Rattle.text.specs.Inked.{Inked};
 ghost use Rattle.runs.specs.Runs.{Went, Ran, penAt, drawnTo, placeAfter, rowMark, filledTo, Stocked};
 
@@ -76,6 +78,61 @@ fn line(
     drawn_to(p, l, x, i)
 }
 
+// A character in MD3's last cell: drawn, and the line pushed left. It is the mode's way with each character of a full line.
+fn push(
+    g: Geometry,
+    mem: &mut [u8],
+    font: &[u8],
+    p: Spot,
+    w: u8,
+    style: Style,
+    c: usize,
+    l: usize,
+    code: u8,
+) -> Spot
+    requires { ⌜ Usable g × (Room g (p .view) (cellWidth w style) (cellHeight style) × (Inked (now font) style code × Fits g (now mem))) ⌝ }
+    requires { ⌜ (c ≡ cellWidth w style) × (l ≡ cellHeight style) × (p .view .mode ≡ 3) ⌝ }
+    requires { ⌜ (p .view .x + c ≤ p .view .width) × (p .view .width < p .view .x + 2 * c) × (p .view .y + l ≤ p .view .height) ⌝ }
+    ensures { λ r. ⌜ Does g (p .spans) (now (mem .entry)) r (now (mem .exit)) (characterOf g (now (font .entry)) w style code (p .view)) ⌝ }
+{
+    let v = p.view;
+    let left = v.left + v.x;
+    let top = v.top + v.y;
+    cells::draw(g, mem, font, code, w, style, left, top, c, l);
+    let before = p.spans;
+    let spans = dots::mark(before, left, top, c, l);
+    moves::push_left(g, mem, Spot { view: v, spans }, c, l)
+}
+
+// One character where the cursor's line has no room for another after it.
+fn last(
+    g: Geometry,
+    mem: &mut [u8],
+    font: &[u8],
+    p: Spot,
+    w: u8,
+    style: Style,
+    c: usize,
+    l: usize,
+    code: u8,
+) -> Spot
+    requires { ⌜ Usable g × (Room g (p .view) (cellWidth w style) (cellHeight style) × (Inked (now font) style code × Fits g (now mem))) ⌝ }
+    requires { ⌜ (c ≡ cellWidth w style) × (l ≡ cellHeight style) ⌝ }
+    ensures { λ r. ⌜ Does g (p .spans) (now (mem .entry)) r (now (mem .exit)) (characterOf g (now (font .entry)) w style code (p .view)) ⌝ }
+{
+    let v = p.view;
+    let x = v.x;
+    let y = v.y;
+    let width = v.width;
+    let height = v.height;
+    let mode = v.mode;
+    let whole = (x + c <= width) & (y + l <= height);
+    if (mode == 3) & ((width < x + 2 * c) & whole) {
+        return push(g, mem, font, p, w, style, c, l, code);
+    }
+    text::character(g, mem, font, p, w, style, code)
+}
+
 // The characters of a line; where the cursor's has no room for another after it, the one that wraps.
 fn stretch(
     g: Geometry,
@@ -101,7 +158,7 @@ fn stretch(
     if (x + 2 * c <= width) & (y + l <= height) {
         return line(g, mem, font, p, w, style, c, l, piece, from);
     }
-    let spot = text::character(g, mem, font, p, w, style, piece[from]);
+    let spot = last(g, mem, font, p, w, style, c, l, piece[from]);
     Drawn { spot, at: from + 1 }
 }
 

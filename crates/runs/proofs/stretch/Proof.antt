@@ -14,18 +14,22 @@ line-requires c κs =
     let k = start .pre .1 in
     (start .pre .0, ((k .0, k .1, k .2, k .3), f))
 
-character-requires : tie.Need-character-requires
-character-requires c κs =
+last-requires : tie.Need-last-requires
+last-requires c κs =
     let start = c .before .before .before .before .before .before .before in
-    let inked = start .pre .0 .1 .1 .0 in (
-      start .pre .0 .0,
+    let inked = start .pre .0 .1 .1 .0 in
+    let k = start .pre .1 in (
       (
-        start .pre .0 .1 .0,
+        start .pre .0 .0,
         (
-          record { whole = inked .whole; has = start .pre .1 .3; across-some = inked .across-some; down = inked .down },
-          start .pre .0 .1 .1 .1,
+          start .pre .0 .1 .0,
+          (
+            record { whole = inked .whole; has = k .3; across-some = inked .across-some; down = inked .down },
+            start .pre .0 .1 .1 .1,
+          ),
         ),
       ),
+      (k .0, k .1),
     )
 
 returns-2 : tie.Need-returns-2
@@ -35,7 +39,7 @@ returns-2 c =
     let a = start .args in (
       omega arith,
       went-next (a .g) (a .font .now) (a .w) (a .style) (a .p) (a .mem .now) (a .piece .now) (a .from) (a .p) (a .mem .now) (a .from) (went-begin (a .g) (a .font .now) (a .w) (a .style) (a .p) (a .mem .now) (a .piece .now) (a .from) (start .pre .0 .1 .0 .place) (start .pre .1 .2)) (start .pre .0 .1 .0)
-          (start .pre .1 .2) (start .pre .1 .3) (drawing .character .ensures) (drawing .character .kept .1 .0),
+          (start .pre .1 .2) (start .pre .1 .3) (drawing .last .ensures) (drawing .last .kept .1 .0),
     )
 
 pub stretch-spec : {M : Type 1} → statement M
@@ -49,7 +53,7 @@ stretch-spec =
     (λ c. search needs)
     (λ c. search needs)
     (λ c. search needs)
-    character-requires
+    last-requires
     (λ c. omega arith)
     (λ c. search needs)
     returns-2)
