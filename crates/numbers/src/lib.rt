@@ -1,8 +1,10 @@
-// Numbers: document 01's number of each refusal and each outcome, and what an outcome counts as. It may use the paper alone.
+// Numbers: document 01's number of each refusal and each outcome, what an outcome counts as, and a 16-bit number of its bytes.
+// It may use the paper alone.
 // Calls, C and the viewer ask here; each contract is the paper's definition of the same name.
 use paper::Outcome;
 use paper::Refusal;
 ghost use mathlib.Core.Path.{_≡_};
+ghost use Rattle.paper.specs.Reading.{word16};
 ghost use Rattle.paper.specs.Numbers.{refusalNumber, outcomeNumber, carriedBy, answeredBy};
 
 // The number of a refusal; 0 for a call that is not refused.
@@ -51,4 +53,11 @@ pub fn answered_by(o: Outcome) -> usize
     ensures { λ n. ⌜ n ≡ answeredBy o ⌝ }
 {
     if 11 <= outcome_number(o) { 1 } else { 0 }
+}
+
+// A 16-bit number of its two bytes, low byte first.
+pub fn word16(low: u8, high: u8) -> u16
+    ensures { λ n. ⌜ n ≡ word16 low high ⌝ }
+{
+    (low as u16) + 256 * (high as u16)
 }

@@ -1,8 +1,8 @@
 // What a byte gives to a half-read command: document 01, "How bytes are read".
 // There is no state and no memory here: a command that is whole, an image byte with its place, or what is awaited next.
-// It uses the paper alone. `read` is its one call; each function above it decides one place in a command.
+// It uses the paper and the numbers. `read` is its one call; each function above it decides one place in a command.
 ghost use mathlib.Core.Path.{_≡_};
-ghost use Rattle.paper.specs.Reading.{between, moreIf, readMove, readFirst, readEscape, readUnit, readGroup, readActions, readImages, readCharacters, readWindows, readRest, readGlyphByte, readWindowB, word16, readWord, readImage, readOf};
+ghost use Rattle.paper.specs.Reading.{between, moreIf, readMove, readFirst, readEscape, readUnit, readGroup, readActions, readImages, readCharacters, readWindows, readRest, readGlyphByte, readWindowB, readWord, readImage, readOf};
 use paper::Command;
 use paper::Geometry;
 use paper::Half;
@@ -46,13 +46,6 @@ fn more_rest(left: u8) -> Reading
     ensures { λ r. ⌜ r ≡ Reading.More (Half.Rest left) ⌝ }
 {
     Reading::More(Half::Rest { left })
-}
-
-// A 16-bit parameter: low byte first.
-fn word16(low: u8, high: u8) -> u16
-    ensures { λ r. ⌜ r ≡ word16 low high ⌝ }
-{
-    (low as u16) + 256 * (high as u16)
 }
 
 // The moves, 08h to 0Dh.
@@ -323,7 +316,7 @@ pub fn read(g: Geometry, half: Half, b: u8) -> Reading
         ),
         Half::GlyphByte { code, last, left } => read_glyph_byte(code, last, left),
         Half::Low(word) => Reading::More(Half::High { word, low: b }),
-        Half::High { word, low } => read_word(g, word, word16(low, b)),
+        Half::High { word, low } => read_word(g, word, numbers::word16(low, b)),
         Half::ImageKind { width, height } => more_if(
             b == 1,
             Half::ImageData {

@@ -18,19 +18,12 @@ use record_half::Slots;
 
 // ---- the state of bytes
 
-// A 16-bit number of its two bytes.
-fn joined(low: u8, high: u8) -> u16
-    ensures { λ n. ⌜ n ≡ low + 256 * high ⌝ }
-{
-    (low as u16) + 256 * (high as u16)
-}
-
 // A 16-bit number.
 fn word_at(l: &[u8], i: usize) -> u16
     requires { ⌜ i + 2 ≤ length (now l) ⌝ }
     ensures { λ n. ⌜ n ≡ wordAt (now (l .entry)) i ⌝ }
 {
-    joined(l[i], l[i + 1])
+    numbers::word16(l[i], l[i + 1])
 }
 
 // The settings.
