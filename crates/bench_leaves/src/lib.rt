@@ -2,6 +2,7 @@
 // It may use dots and cells. Each function works on the 112 by 16 module; it tests what its leaf asks and does nothing if that
 // does not hold. It is no part of the panel.
 use paper::Geometry;
+use paper::Rect;
 use paper::Span;
 use paper::Style;
 
@@ -13,20 +14,22 @@ pub extern "C" fn leaf_clear(mem: &mut [u8], left: u16, top: u16, width: u16, he
         rows: 2,
         visible: 112,
     };
-    let l = left as usize;
-    let t = top as usize;
-    let w = width as usize;
-    let h = height as usize;
+    let r = Rect {
+        left: left as usize,
+        top: top as usize,
+        width: width as usize,
+        height: height as usize,
+    };
     if mem.len() != 1024 {
         return;
     }
-    if 512 < l + w {
+    if 512 < r.left + r.width {
         return;
     }
-    if 2 < t + h {
+    if 2 < r.top + r.height {
         return;
     }
-    dots::clear(g, mem, l, t, w, h);
+    dots::clear(g, mem, r);
 }
 
 // Scrolls a rectangle up.
@@ -44,20 +47,22 @@ pub extern "C" fn leaf_scroll_up(
         rows: 2,
         visible: 112,
     };
-    let l = left as usize;
-    let t = top as usize;
-    let w = width as usize;
-    let h = height as usize;
+    let r = Rect {
+        left: left as usize,
+        top: top as usize,
+        width: width as usize,
+        height: height as usize,
+    };
     if mem.len() != 1024 {
         return;
     }
-    if 512 < l + w {
+    if 512 < r.left + r.width {
         return;
     }
-    if 2 < t + h {
+    if 2 < r.top + r.height {
         return;
     }
-    dots::scroll_up(g, mem, l, t, w, h, lines as usize);
+    dots::scroll_up(g, mem, r, lines as usize);
 }
 
 // Moves a rectangle's columns left.
@@ -75,20 +80,22 @@ pub extern "C" fn leaf_move_left(
         rows: 2,
         visible: 112,
     };
-    let l = left as usize;
-    let t = top as usize;
-    let w = width as usize;
-    let h = height as usize;
+    let r = Rect {
+        left: left as usize,
+        top: top as usize,
+        width: width as usize,
+        height: height as usize,
+    };
     if mem.len() != 1024 {
         return;
     }
-    if 512 < l + w {
+    if 512 < r.left + r.width {
         return;
     }
-    if 2 < t + h {
+    if 2 < r.top + r.height {
         return;
     }
-    dots::move_left(g, mem, l, t, w, h, n as usize);
+    dots::move_left(g, mem, r, n as usize);
 }
 
 // Draws a code's cell at (left, top), enlarged, reversed and mixed as the four numbers say.
@@ -111,17 +118,19 @@ pub extern "C" fn leaf_draw(
         rows: 2,
         visible: 112,
     };
-    let l = left as usize;
-    let t = top as usize;
-    let w = width as usize;
-    let h = height as usize;
+    let r = Rect {
+        left: left as usize,
+        top: top as usize,
+        width: width as usize,
+        height: height as usize,
+    };
     if mem.len() != 1024 {
         return;
     }
-    if 512 < l + w {
+    if 512 < r.left + r.width {
         return;
     }
-    if 2 < t + h {
+    if 2 < r.top + r.height {
         return;
     }
     if font.len() != 1120 {
@@ -136,7 +145,7 @@ pub extern "C" fn leaf_draw(
     if 2 < down {
         return;
     }
-    if (down as usize) < h {
+    if (down as usize) < r.height {
         return;
     }
     let style = Style {
@@ -145,7 +154,7 @@ pub extern "C" fn leaf_draw(
         across,
         down,
     };
-    cells::draw(g, mem, font, code, 1, style, l, t, w, h);
+    cells::draw(g, mem, font, code, 1, style, r);
 }
 
 // Copies both rows' columns from `first` to the one before `end` to the glass, and says how many bytes that were.

@@ -1,5 +1,5 @@
 -- What drawing asks of the settings, from settings in their domains. Assumes nothing.
-use mathlib.Core.Path.{_≡_}
+use mathlib.Core.Path.{_≡_, refl}
 use mathlib.Core.Bool.{true}
 use mathlib.Core.List.{List}
 use Prim.Native.Nat.{ℕ, _≤_}
@@ -7,6 +7,7 @@ use lib.ListN.{length}
 use Rattle.paper.specs.declared.Settings.{Settings}
 use Rattle.paper.specs.Panel.{fontLength}
 use Rattle.paper.specs.Bounds.{settingsOk}
+use Rattle.cells.specs.Cell.{cellOf}
 use Rattle.text.specs.Inked.{Inked}
 use Rattle.paper.specs.Settings.{inEnlargement}
 use Rattle.paper.specs.Reading.{between}
@@ -15,13 +16,18 @@ use Rattle.laws_state.proofs.Settings.{domains}
 
 -- a whole font, a code that it has, and accepted settings are all that drawing asks
 pub inks : (font : List ℕ) (v : Settings) (code : ℕ) → length font ≡ fontLength → settingsOk v ≡ true → 0x20 ≤ code
-    → Inked font (v .style) code
+    → Inked font (cellOf (v .width) (v .style)) code
 unfolding inEnlargement
 inks font v code l o h =
     let f = both-of (between 1 4 (v .style .across)) (between 1 2 (v .style .down)) (domains v o .enlargement) in
     record {
       whole = l;
       has = h;
-      across-some = between-facts 1 4 (v .style .across) (f .0) .0;
-      down = between-facts 1 2 (v .style .down) (f .1) .1;
+      cell =
+          record {
+            columns = refl;
+            rows = refl;
+            across-some = between-facts 1 4 (v .style .across) (f .0) .0;
+            down = between-facts 1 2 (v .style .down) (f .1) .1;
+          };
     }

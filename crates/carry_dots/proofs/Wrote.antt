@@ -13,10 +13,10 @@ use Rattle.paper.specs.declared.Span.{Span}
 use Rattle.paper.specs.declared.State.{State}
 use Rattle.paper.specs.declared.Style.{Style}
 use Rattle.paper.specs.declared.View.{View}
-use Rattle.paper.specs.Strokes.{Stroke, applyAll, markAll}
+use Rattle.paper.specs.Strokes.{Stroke, rectAt, applyAll, markRect, markAll}
 use Rattle.paper.specs.Settings.{initialState, withHalf, withBase, windowAt, defined, withCursor, atCursor, cursorIn, viewOf, withView, withSpans}
 use Rattle.paper.specs.Bounds.{halfOk}
-use Rattle.paper.specs.Cells.{cellWidth, cellHeight, tooLarge, eraseStroke, imageStroke}
+use Rattle.paper.specs.Cells.{cellWidth, cellHeight, tooLarge, memoryRect, eraseStroke}
 use Rattle.paper.specs.Moves.{Moved}
 use Rattle.paper.specs.Carry.{Meaning, means, answers, moves, imageStrokes}
 use Rattle.paper.specs.Calls.{settled}
@@ -29,8 +29,6 @@ use Rattle.laws_state.proofs.Parts.{parts, whole}
 use Rattle.laws_state.proofs.Builders.{half-parts}
 use Rattle.laws_state.proofs.Views.{view-place}
 use Rattle.laws_memory.specs.Rectangles.{cleared}
-use Rattle.laws_memory.specs.Spans.{markRect}
-use Rattle.laws_memory.proofs.Spans.{marked-rect}
 use Rattle.moves.specs.declared.Spot.{Spot}
 use Rattle.moves.specs.Does as pens
 use Rattle.carry_dots.specs.Does.{Ready, Does, ImageStored}
@@ -112,7 +110,7 @@ does-picture s p o column row b d f =
 
 -- all of memory zeroed, and the initial state
 pub does-erase : {g : Geometry} {m m′ : List ℕ} {r : Done} {e : Meaning} {t : State} {ps : List Span} (s : State)
-    → m′ ≡ cleared g 0 0 (g .columns) (g .rows) m → ps ≡ markRect 0 0 (g .columns) (g .rows) (s .spans) → t ≡ initialState g
+    → m′ ≡ cleared g (memoryRect g) m → ps ≡ markRect (memoryRect g) (s .spans) → t ≡ initialState g
     → r ≡ done (withSpans t ps) Carried → e ≡ means (withSpans (initialState g) (s .spans)) Carried (eraseStroke g ∷ [])
     → Does g m r m′ e
 unfolding cleared
@@ -120,7 +118,7 @@ does-erase {g} {m} s c k i f h =
     record {
       state =
           ap (λ (x : Done). x .state) f
-          ∙ ap₂ (λ (x : State) (ps : List Span). withSpans x ps) i (k ∙ sym (marked-rect (s .spans) (eraseStroke g)))
+          ∙ ap₂ (λ (x : State) (ps : List Span). withSpans x ps) i k
           ∙ sym (ap settled h);
       outcome = ap (λ (x : Done). x .outcome) f ∙ sym (ap (λ (x : Meaning). x .outcome) h);
       mem = c ∙ sym (ap (λ (x : Meaning). applyAll g m (x .strokes)) h);
@@ -130,12 +128,12 @@ module _ (g : Geometry) (p : Spot) (y : Style) (column row b : ℕ) (m : List �
   -- an image byte inside the range is stored
   pub image-stored-in : {m′ : List ℕ} {ps : List Span} → (ltb (p .view .x + column) (p .view .width) && ltb (p .view .y + row) (p .view .height)) ≡ true
       → m′ ≡ imaged g y (p .view .left + (p .view .x + column)) (p .view .top + (p .view .y + row)) b m
-      → ps ≡ markRect (p .view .left + (p .view .x + column)) (p .view .top + (p .view .y + row)) 1 1 (p .spans)
+      → ps ≡ markRect (rectAt (p .view .left + (p .view .x + column)) (p .view .top + (p .view .y + row)) 1 1) (p .spans)
       → ImageStored g p y column row b m ps m′
   unfolding imageStrokes imaged
   image-stored-in t e k =
       record {
-        spans = rw t (k ∙ sym (marked-rect (p .spans) (imageStroke y column row b (p .view))));
+        spans = rw t k;
         mem = rw t e;
       }
 

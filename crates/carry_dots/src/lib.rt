@@ -6,6 +6,7 @@ use moves::Spot;
 use paper::Command;
 use paper::Geometry;
 use paper::Outcome;
+use paper::Rect;
 use paper::Span;
 use paper::State;
 use paper::Style;
@@ -55,7 +56,8 @@ pub fn character(g: Geometry, mem: &mut [u8], font: &[u8], s: State, code: u8) -
     if carry_state::is_too_large(p.view, w, style) {
         return carry_state::ends(s, Outcome::TooLarge);
     }
-    let q = text::character(g, mem, font, p, w, style, code);
+    let cell = cells::cell_of(w, style);
+    let q = text::character(g, mem, font, p, cell, code);
     carry_state::ends(settle(s, q), Outcome::Carried)
 }
 
@@ -110,9 +112,8 @@ pub fn initialise(g: Geometry, mem: &mut [u8], s: State, held: bool) -> Done
     if held {
         return carry_state::ends(s, Outcome::WindowHeld);
     }
-    dots::clear(g, mem, 0, 0, g.columns, g.rows);
     let before = s.spans;
-    let spans = dots::mark(before, 0, 0, g.columns, g.rows);
+    let spans = dots::erase(g, mem, before);
     let t = state::initial_state(g);
     carry_state::ends(State { spans, ..t }, Outcome::Carried)
 }
@@ -141,7 +142,15 @@ pub fn image_byte(
         let left = v.left + x;
         let top = v.top + y;
         cells::store(g, mem, style, left, top, byte);
-        return dots::mark(before, left, top, 1, 1);
+        return dots::mark(
+            before,
+            Rect {
+                left,
+                top,
+                width: 1,
+                height: 1,
+            },
+        );
     }
     before
 }

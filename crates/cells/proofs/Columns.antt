@@ -6,16 +6,16 @@ use mathlib.Core.List.{List}
 use Prim.Native.Nat.{ℕ, zero, suc, _+_, _*_, _<_, _≤_}
 use native.Mathlib.Nat.{le-antisymm}
 use native.Mathlib.Omega.{arith}
-use lib.ListN.{getD}
+use lib.ListN.{length, getD, set}
 use Rattle.paper.specs.declared.Geometry.{Geometry}
 use Rattle.paper.specs.declared.Style.{Style}
 use Rattle.paper.specs.Panel.{address, dot, byteOf}
-use Rattle.paper.specs.Strokes.{rectMap}
+use Rattle.paper.specs.Strokes.{rectAt, rectMap}
 use Rattle.paper.specs.Cells.{Dots, enlargedDots, penned}
 use Rattle.laws_bytes.specs.Bytes.{reversedByte, mixedByte, pennedByte}
 use Rattle.laws_bytes.proofs.Penned.{penned-dots, penned-byte}
-use Rattle.laws_memory.specs.Rectangles.{stored, Bytes}
-use Rattle.laws_memory.proofs.Rects.{rect-none, rect-same, rect-beside, rect-below, stored-by}
+use Rattle.laws_memory.specs.Rectangles.{Bytes}
+use Rattle.laws_memory.proofs.Rects.{rect-none, rect-same, rect-beside, rect-below, rect-one}
 use Rattle.cells.specs.declared.Tall.{Tall}
 use Rattle.cells.specs.Drawn.{cellMap, imaged}
 use Rattle.cells.specs.Columns.{atRow, mixedAt, mixedColumn}
@@ -23,16 +23,16 @@ use Rattle.cells.specs.Columns.{atRow, mixedAt, mixedColumn}
 -- ---- one byte
 
 -- made of the one at its address, and stored there
-pub mixed-by : (g : Geometry) (y : Style) (x top v a u : ℕ) (m m′ : List ℕ) → a ≡ address g x top → u ≡ mixedByte y v (getD m a 0)
-    → m′ ≡ stored g x top u m → m′ ≡ mixedAt g y x top v m
+pub mixed-by : (g : Geometry) (y : Style) (x top v a u : ℕ) (m : List ℕ) → top < g .rows → a < length m → a ≡ address g x top
+    → u ≡ mixedByte y v (getD m a 0) → set m a u ≡ mixedAt g y x top v m
 unfolding mixedAt
-mixed-by g y x top v a u m m′ e k p = p ∙ stored-by g x top _ m u (rw e at k)
+mixed-by g y x top v a u m hy l e k = rw e (rect-one g x top _ m u hy (rw e at l) (rw e at k))
 
 -- of an image
 pub imaged-by : (g : Geometry) (y : Style) (x top v u : ℕ) (m m′ : List ℕ) → v < 256 → Bytes m → u ≡ reversedByte y v
     → m′ ≡ mixedAt g y x top u m → m′ ≡ imaged g y x top v m
 unfolding mixedAt imaged pennedByte
-imaged-by g y x top v u m m′ hv bytes e p = p ∙ rect-same g x top 1 1 _ _ m (λ j r hj hr. same _ (bytes _))
+imaged-by g y x top v u m m′ hv bytes e p = p ∙ rect-same g (rectAt x top 1 1) _ _ m (λ j r hj hr. same _ (bytes _))
   where
     same : (b : ℕ) → b < 256 → mixedByte y u b ≡ penned y (dot v) b
     same b hb = ap (λ (n : ℕ). mixedByte y n b) e ∙ sym (penned-dots y v b hv hb)
@@ -53,13 +53,13 @@ module _ (g : Geometry) (y : Style) (x top : ℕ) (t : Tall) (m : List ℕ) wher
   -- no row of it
   pub column-none : (h : ℕ) → h ≡ 0 → m ≡ mixedColumn g y x top h t m
   unfolding mixedColumn
-  column-none h e = rect-none g x top 1 h _ m (λ a i. omega arith)
+  column-none h e = rect-none g (rectAt x top 1 h) _ m (λ a i. omega arith)
 
   -- its first row
   pub column-one : (h : ℕ) (m′ : List ℕ) → h ≡ 1 → m′ ≡ mixedAt g y x top (t .upper) m → m′ ≡ mixedColumn g y x top h t m
   unfolding mixedAt mixedColumn
   column-one h m′ e p =
-      rw e (p ∙ rect-same g x top 1 1 _ _ m
+      rw e (p ∙ rect-same g (rectAt x top 1 1) _ _ m
       (λ j r hj hr. ap (λ (v : ℕ). mixedByte y v (getD m (address g (x + j) (top + r)) 0)) (rows-of t r hr .0)))
 
   -- its first row, then its second
@@ -79,22 +79,22 @@ inked y cell j r b = pennedByte y (cell j r) b
 
 module _ (g : Geometry) (y : Style) (cell : ℕ → ℕ → ℕ) (left top h : ℕ) (m : List ℕ) where
   -- a column more of a cell
-  pub cell-turn : (j : ℕ) (t : Tall) (cur cur′ : List ℕ) → cur ≡ rectMap g left top j h (inked y cell) m
+  pub cell-turn : (j : ℕ) (t : Tall) (cur cur′ : List ℕ) → cur ≡ rectMap g (rectAt left top j h) (inked y cell) m
       → ((r : ℕ) → r < h → atRow t r ≡ reversedByte y (cell j r)) → cur′ ≡ mixedColumn g y (left + j) top h t cur
-      → cur′ ≡ rectMap g left top (j + 1) h (inked y cell) m
+      → cur′ ≡ rectMap g (rectAt left top (j + 1) h) (inked y cell) m
   unfolding mixedColumn pennedByte
   cell-turn j t cur cur′ e k p =
-      p ∙ ap (rectMap g (left + j) top 1 h _) e
+      p ∙ ap (rectMap g (rectAt (left + j) top 1 h) _) e
       ∙ rect-beside g left top j 1 h (inked y cell) _ (inked y cell) m (λ i r b hi hr. refl)
       (λ i r b hi hr. ap (λ (v : ℕ). mixedByte y v b) (k r hr) ∙ ap (λ (n : ℕ). inked y cell n r b) (omega arith))
 
   -- the cell is drawn: its bytes are the paper's dots
   pub cell-end : (d : Dots) (j w : ℕ) (cur : List ℕ) → Bytes m
       → ((j r : ℕ) → r < h → byteOf (λ i. enlargedDots y d j (8 * r + i)) ≡ cell j r)
-      → cur ≡ rectMap g left top j h (inked y cell) m → j ≤ w → w ≤ j → cur ≡ cellMap g y d left top w h m
+      → cur ≡ rectMap g (rectAt left top j h) (inked y cell) m → j ≤ w → w ≤ j → cur ≡ cellMap g y d (rectAt left top w h) m
   cell-end d j w cur bytes k e p q =
-      e ∙ ap (λ (n : ℕ). rectMap g left top n h (inked y cell) m) (le-antisymm p q)
-      ∙ rect-same g left top w h _ _ m (λ j r hj hr. sym (same j r _ hr (bytes _)))
+      e ∙ ap (λ (n : ℕ). rectMap g (rectAt left top n h) (inked y cell) m) (le-antisymm p q)
+      ∙ rect-same g (rectAt left top w h) _ _ m (λ j r hj hr. sym (same j r _ hr (bytes _)))
     where
       same : (j r b : ℕ) → r < h → b < 256 → penned y (λ i. enlargedDots y d j (8 * r + i)) b ≡ inked y cell j r b
       same j r b hr hb = penned-byte y _ b hb ∙ ap (λ (v : ℕ). pennedByte y v b) (k j r hr)

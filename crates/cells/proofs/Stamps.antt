@@ -9,7 +9,7 @@ use borrow.Author.Tests.{eq-eqb, eqb-true}
 use lib.Dec.{eqb}
 use Rattle.paper.specs.declared.Geometry.{Geometry}
 use Rattle.paper.specs.declared.Style.{Style}
-use Rattle.paper.specs.Strokes.{rectMap}
+use Rattle.paper.specs.Strokes.{rectAt, rectMap}
 use Rattle.paper.specs.Cells.{cellDot}
 use Rattle.laws_bytes.specs.Bytes.{reversedByte, cellByte, pennedByte}
 use Rattle.laws_bytes.proofs.Drawn.{cell-byte}
@@ -45,7 +45,7 @@ module _ (g : Geometry) (font : List ℕ) (code w : ℕ) (y : Style) (left top :
       → cur′ ≡ stamped g font code w y (left + n) top n k cur → cur′ ≡ stamped g font code w y left top 0 (n + k) m
   unfolding stamped
   stamp-more n k m cur cur′ e p =
-      p ∙ ap (rectMap g (left + n) top k 1 _) e
+      p ∙ ap (rectMap g (rectAt (left + n) top k 1) _) e
       ∙ rect-beside g left top n k 1 _ _ _ m (λ j r b hj hr. refl)
       (λ j r b hj hr. ap (λ (i : ℕ). pennedByte y (plainByte font code w top i) b) (omega arith))
 
@@ -57,7 +57,7 @@ module _ (g : Geometry) (font : List ℕ) (code w : ℕ) (y : Style) (left top :
   -- the cell is drawn: its blank columns, the glyph's five, and the last
   pub stamp-end : y .across ≡ 1 → y .down ≡ 1 → Bytes font → (m m₁ m₂ m₃ : List ℕ) → Bytes m
       → m₁ ≡ stamped g font code w y left top 0 w m → m₂ ≡ stamped g font code w y (left + w) top w 5 m₁
-      → m₃ ≡ stamped g font code w y (left + (w + 5)) top (w + 5) 1 m₂ → m₃ ≡ drawn g font code w y left top (w + 6) 1 m
+      → m₃ ≡ stamped g font code w y (left + (w + 5)) top (w + 5) 1 m₂ → m₃ ≡ drawn g font code w y (rectAt left top (w + 6) 1) m
   unfolding stamped drawn
   stamp-end across down dots m m₁ m₂ m₃ bytes e₁ e₂ e₃ =
       cell-end g y (λ j r. plainByte font code w top (0 + j)) left top 1 m (cellDot font code w top) (w + 5 + 1) (w + 6) m₃ bytes

@@ -1,26 +1,23 @@
 -- What the public functions make of the memory is what the paper's strokes make of it. Assumes nothing.
 use mathlib.Core.Path.{_≡_, refl}
 use mathlib.Core.List.{List}
-use Prim.Native.Nat.{ℕ, _+_, _-_, min}
+use Prim.Native.Nat.{ℕ, _+_}
 use Rattle.paper.specs.declared.Geometry.{Geometry}
 use Rattle.paper.specs.declared.Style.{Style}
 use Rattle.paper.specs.declared.View.{View}
 use Rattle.paper.specs.Strokes.{applied}
-use Rattle.paper.specs.Cells.{cellWidth, cellHeight, drawStroke, blankStroke, imageStroke}
+use Rattle.paper.specs.Cells.{cellWidth, cellHeight, partOf, drawStroke, blankStroke, imageStroke}
 use Rattle.cells.specs.Drawn.{drawn, blanked, imaged}
 
 module _ (g : Geometry) (m : List ℕ) (y : Style) (v : View) where
   -- the cell of a code at the cursor
   pub drawn-stroke : (font : List ℕ) (w code : ℕ)
-      → drawn g font code w y (v .left + v .x) (v .top + v .y) (min (cellWidth w y) (v .width - v .x)) (min (cellHeight y) (v .height - v .y)) m
-      ≡ applied g m (drawStroke font w y code v)
+      → drawn g font code w y (partOf v (cellWidth w y) (cellHeight y)) m ≡ applied g m (drawStroke font w y code v)
   unfolding drawn
   drawn-stroke font w code = refl
 
   -- the all-off cell of a wrap
-  pub blanked-stroke : (w : ℕ)
-      → blanked g y (v .left + v .x) (v .top + v .y) (min (cellWidth w y) (v .width - v .x)) (min (cellHeight y) (v .height - v .y)) m
-      ≡ applied g m (blankStroke w y v)
+  pub blanked-stroke : (w : ℕ) → blanked g y (partOf v (cellWidth w y) (cellHeight y)) m ≡ applied g m (blankStroke w y v)
   unfolding blanked
   blanked-stroke w = refl
 

@@ -5,7 +5,7 @@ use Prim.Native.Nat.{ℕ, _+_}
 use lib.Dec.{eqb}
 use Rattle.paper.specs.declared.Geometry.{Geometry}
 use Rattle.paper.specs.declared.Style.{Style}
-use Rattle.paper.specs.Strokes.{rectMap}
+use Rattle.paper.specs.Strokes.{rectAt, rectMap}
 use Rattle.laws_bytes.specs.Bytes.{placedByte, glyphColumn, tallByte, reversedByte, mixedByte, pennedByte}
 use Rattle.cells.specs.declared.Tall.{Tall}
 use Rattle.cells.specs.declared.Walk.{Walk}
@@ -35,11 +35,11 @@ atRow t r = cond (eqb r 0) (t .upper) (t .lower)
 
 -- a byte mixed into memory
 unfoldable pub mixedAt : Geometry → Style → ℕ → ℕ → ℕ → List ℕ → List ℕ
-mixedAt g y x top v m = rectMap g x top 1 1 (λ j r b. mixedByte y v b) m
+mixedAt g y x top v m = rectMap g (rectAt x top 1 1) (λ j r b. mixedByte y v b) m
 
 -- a column mixed into memory
 unfoldable pub mixedColumn : Geometry → Style → ℕ → ℕ → ℕ → Tall → List ℕ → List ℕ
-mixedColumn g y x top height t m = rectMap g x top 1 height (λ j r b. mixedByte y (atRow t r) b) m
+mixedColumn g y x top height t m = rectMap g (rectAt x top 1 height) (λ j r b. mixedByte y (atRow t r) b) m
 
 -- column k of a code's cell that is not enlarged, the cursor on a row of memory
 abbrev pub plainByte : List ℕ → ℕ → ℕ → ℕ → ℕ → ℕ
@@ -48,4 +48,4 @@ plainByte font code w row k = placedByte row (glyphColumn font code w k)
 -- n columns of it mixed into memory, from its column `first` on
 unfoldable pub stamped : Geometry → List ℕ → ℕ → ℕ → Style → ℕ → ℕ → ℕ → ℕ → List ℕ → List ℕ
 stamped g font code w y left top first n m =
-    rectMap g left top n 1 (λ j r b. pennedByte y (plainByte font code w top (first + j)) b) m
+    rectMap g (rectAt left top n 1) (λ j r b. pennedByte y (plainByte font code w top (first + j)) b) m

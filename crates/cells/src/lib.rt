@@ -2,15 +2,18 @@
 // It may use the paper, its laws and the dots, and it knows nothing of cursors and windows.
 // Inside it works in bytes: a glyph's column is fetched, placed, stretched and reversed once, then mixed in across.
 use paper::Geometry;
+use paper::Rect;
 use paper::Style;
 ghost use mathlib.Core.Path.{_≡_};
 ghost use Prim.Native.Nat.{_+_, _^_, _≤_, _<_};
 ghost use lib.ListN.{length};
 ghost use Rattle.paper.specs.Panel.{fontLength};
+ghost use Rattle.paper.specs.Strokes.{rectAt};
 ghost use Rattle.paper.specs.Cells.{cellWidth};
 ghost use Rattle.laws_bytes.specs.Bytes.{double, placedByte, glyphColumn, reversedByte, mixedByte};
 ghost use Rattle.laws_memory.specs.Rectangles.{Fits, Within};
 ghost use Rattle.cells.specs.Drawn.{drawn, blanked, imaged};
+ghost use Rattle.cells.specs.Cell.{cellOf};
 ghost use Rattle.cells.specs.Columns.{tallOf, inkColumn, nextOf, mixedAt, mixedColumn, stamped};
 
 // A column of a cell repeated downwards: the bytes of its two rows. A cell one row high has the first alone.
@@ -32,6 +35,26 @@ pub fn cell_width(w: u8, style: Style) -> usize
 {
     let across = style.across as usize;
     if w == 0 { 6 * across } else { 7 * across }
+}
+
+// A cell as the settings ask for it: its blank columns on the left, its style, and how many columns and rows it has.
+pub struct Cell {
+    pub blanks: u8,
+    pub style: Style,
+    pub columns: usize,
+    pub rows: usize,
+}
+
+// The cell that the width setting and the style ask for, measured once for a command.
+pub fn cell_of(w: u8, style: Style) -> Cell
+    ensures { λ c. ⌜ c ≡ cellOf w style ⌝ }
+{
+    Cell {
+        blanks: w,
+        style,
+        columns: cell_width(w, style),
+        rows: style.down as usize,
+    }
 }
 
 // Column k of a code's cell: the glyph's five after w blank ones, then blank.
@@ -138,12 +161,11 @@ fn next(font: &[u8], code: u8, w: u8, style: Style, row: usize, walk: Walk) -> W
 
 // Mixes a byte into memory.
 fn mix(g: Geometry, mem: &mut [u8], style: Style, x: usize, y: usize, v: u8)
-    requires { ⌜ Within g x y 1 1 × Fits g (now mem) ⌝ }
+    requires { ⌜ Within g (rectAt x y 1 1) × Fits g (now mem) ⌝ }
     ensures { λ _. ⌜ now (mem .exit) ≡ mixedAt g style x y v (now (mem .entry)) ⌝ }
 {
     let a = dots::at(g, x, y);
-    let b = mixed(style, v, mem[a]);
-    dots::put(g, mem, x, y, b);
+    mem[a] = mixed(style, v, mem[a]);
 }
 
 // Mixes a column into memory, as many rows of it as the rectangle has.
@@ -156,7 +178,7 @@ fn mix_column(
     height: usize,
     t: Tall,
 )
-    requires { ⌜ Within g x top 1 height × Fits g (now mem) × (height ≤ 2) ⌝ }
+    requires { ⌜ Within g (rectAt x top 1 height) × Fits g (now mem) × (height ≤ 2) ⌝ }
     ensures { λ _. ⌜ now (mem .exit) ≡ mixedColumn g style x top height t (now (mem .entry)) ⌝ }
 {
     if height == 0 {
@@ -182,7 +204,7 @@ fn stamp_columns(
     first: usize,
     count: usize,
 )
-    requires { ⌜ Within g left top count 1 × Fits g (now mem) × (first + count < 2 ^ 64) ⌝ }
+    requires { ⌜ Within g (rectAt left top count 1) × Fits g (now mem) × (first + count < 2 ^ 64) ⌝ }
     requires { ⌜ (length (now font) ≡ fontLength) × (0x20 ≤ code) ⌝ }
     ensures { λ _. ⌜ now (mem .exit) ≡ stamped g (now (font .entry)) code w style left top first count (now (mem .entry)) ⌝ }
 {
@@ -203,10 +225,10 @@ fn stamp(
     left: usize,
     top: usize,
 )
-    requires { ⌜ Within g left top (w + 6) 1 × Fits g (now mem) ⌝ }
+    requires { ⌜ Within g (rectAt left top (w + 6) 1) × Fits g (now mem) ⌝ }
     requires { ⌜ (length (now font) ≡ fontLength) × (0x20 ≤ code) ⌝ }
     requires { ⌜ (style .across ≡ 1) × (style .down ≡ 1) ⌝ }
-    ensures { λ _. ⌜ now (mem .exit) ≡ drawn g (now (font .entry)) code w style left top (w + 6) 1 (now (mem .entry)) ⌝ }
+    ensures { λ _. ⌜ now (mem .exit) ≡ drawn g (now (font .entry)) code w style (rectAt left top (w + 6) 1) (now (mem .entry)) ⌝ }
 {
     let blanks = w as usize;
     let last = blanks + 5;
@@ -216,84 +238,55 @@ fn stamp(
 }
 
 // A cell column by column, each repeated across and down.
-fn walk_over(
-    g: Geometry,
-    mem: &mut [u8],
-    font: &[u8],
-    code: u8,
-    w: u8,
-    style: Style,
-    left: usize,
-    top: usize,
-    width: usize,
-    height: usize,
-)
-    requires { ⌜ Within g left top width height × Fits g (now mem) ⌝ }
+fn walk_over(g: Geometry, mem: &mut [u8], font: &[u8], code: u8, w: u8, style: Style, r: Rect)
+    requires { ⌜ Within g r × Fits g (now mem) ⌝ }
     requires { ⌜ (length (now font) ≡ fontLength) × (0x20 ≤ code) ⌝ }
-    requires { ⌜ (1 ≤ style .across) × (style .down ≤ 2) × (height ≤ style .down) ⌝ }
-    ensures { λ _. ⌜ now (mem .exit) ≡ drawn g (now (font .entry)) code w style left top width height (now (mem .entry)) ⌝ }
+    requires { ⌜ (1 ≤ style .across) × (style .down ≤ 2) × (r .height ≤ style .down) ⌝ }
+    ensures { λ _. ⌜ now (mem .exit) ≡ drawn g (now (font .entry)) code w style r (now (mem .entry)) ⌝ }
 {
+    let top = r.top;
     let mut walk = Walk {
         column: column(font, code, w, style, top, 0),
         index: 0,
         times: 0,
     };
-    for j in 0..width {
+    for j in 0..r.width {
         walk = next(font, code, w, style, top, walk);
         let t = walk.column;
-        mix_column(g, mem, style, left + j, top, height, t);
+        mix_column(g, mem, style, r.left + j, top, r.height, t);
     }
 }
 
-// The cell of a code at the cursor (left, top): the part of it that lies in the rectangle.
-pub fn draw(
-    g: Geometry,
-    mem: &mut [u8],
-    font: &[u8],
-    code: u8,
-    w: u8,
-    style: Style,
-    left: usize,
-    top: usize,
-    width: usize,
-    height: usize,
-)
-    requires { ⌜ Within g left top width height × Fits g (now mem) ⌝ }
+// The cell of a code at a rectangle's top left: the part of it that lies in the rectangle.
+pub fn draw(g: Geometry, mem: &mut [u8], font: &[u8], code: u8, w: u8, style: Style, r: Rect)
+    requires { ⌜ Within g r × Fits g (now mem) ⌝ }
     requires { ⌜ (length (now font) ≡ fontLength) × (0x20 ≤ code) ⌝ }
-    requires { ⌜ (1 ≤ style .across) × (style .down ≤ 2) × (height ≤ style .down) ⌝ }
-    ensures { λ _. ⌜ now (mem .exit) ≡ drawn g (now (font .entry)) code w style left top width height (now (mem .entry)) ⌝ }
+    requires { ⌜ (1 ≤ style .across) × (style .down ≤ 2) × (r .height ≤ style .down) ⌝ }
+    ensures { λ _. ⌜ now (mem .exit) ≡ drawn g (now (font .entry)) code w style r (now (mem .entry)) ⌝ }
 {
     let whole = (w as usize) + 6;
-    if (style.across == 1) & (style.down == 1) & (height == 1) & (width == whole) {
-        stamp(g, mem, font, code, w, style, left, top);
+    if (style.across == 1) & (style.down == 1) & (r.height == 1) & (r.width == whole) {
+        stamp(g, mem, font, code, w, style, r.left, r.top);
         return;
     }
-    walk_over(g, mem, font, code, w, style, left, top, width, height);
+    walk_over(g, mem, font, code, w, style, r);
 }
 
-// The all-off cell of a wrap at the cursor (left, top): the part of it that lies in the rectangle.
-pub fn blank(
-    g: Geometry,
-    mem: &mut [u8],
-    style: Style,
-    left: usize,
-    top: usize,
-    width: usize,
-    height: usize,
-)
-    requires { ⌜ Within g left top width height × Fits g (now mem) × (height ≤ 2) ⌝ }
-    ensures { λ _. ⌜ now (mem .exit) ≡ blanked g style left top width height (now (mem .entry)) ⌝ }
+// The all-off cell of a wrap at a rectangle's top left: the part of it that lies in the rectangle.
+pub fn blank(g: Geometry, mem: &mut [u8], style: Style, r: Rect)
+    requires { ⌜ Within g r × Fits g (now mem) × (r .height ≤ 2) ⌝ }
+    ensures { λ _. ⌜ now (mem .exit) ≡ blanked g style r (now (mem .entry)) ⌝ }
 {
     let v = reversed(style, 0);
     let t = Tall { upper: v, lower: v };
-    for j in 0..width {
-        mix_column(g, mem, style, left + j, top, height, t);
+    for j in 0..r.width {
+        mix_column(g, mem, style, r.left + j, r.top, r.height, t);
     }
 }
 
 // One byte of an image.
 pub fn store(g: Geometry, mem: &mut [u8], style: Style, x: usize, y: usize, v: u8)
-    requires { ⌜ Within g x y 1 1 × Fits g (now mem) ⌝ }
+    requires { ⌜ Within g (rectAt x y 1 1) × Fits g (now mem) ⌝ }
     ensures { λ _. ⌜ now (mem .exit) ≡ imaged g style x y v (now (mem .entry)) ⌝ }
 {
     mix(g, mem, style, x, y, reversed(style, v));

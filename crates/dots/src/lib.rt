@@ -2,14 +2,15 @@
 // Each contract gives the whole memory, or the whole glass, afterwards.
 // It may use the paper, the laws of the memory and the spans' growth, and it knows nothing of characters, windows or the state.
 use paper::Geometry;
+use paper::Rect;
 use paper::Span;
 ghost use mathlib.Core.Path.{_≡_};
 ghost use Prim.Native.Nat.{_+_, _≤_, _<_, min};
 ghost use lib.ListN.{length, getD, set};
 ghost use Rattle.paper.specs.Panel.{memoryLength, address};
-ghost use Rattle.paper.specs.Strokes.{grown, shown, shownAll, refreshed};
-ghost use Rattle.laws_memory.specs.Rectangles.{Fits, Within, cleared, pulled, scrolledUp, movedLeft, stored};
-ghost use Rattle.laws_memory.specs.Spans.{grownRect, markRect};
+ghost use Rattle.paper.specs.Strokes.{rectAt, grown, grownBy, markRect, shown, shownAll, refreshed};
+ghost use Rattle.paper.specs.Cells.{memoryRect};
+ghost use Rattle.laws_memory.specs.Rectangles.{Fits, Within, cleared, pulled, scrolledUp, movedLeft};
 ghost use Rattle.laws_memory.specs.Glass.{Shows, copied};
 
 // The address of column x, row y.
@@ -22,8 +23,8 @@ pub fn at(g: Geometry, x: usize, y: usize) -> usize
 
 // Zeroes the columns of one row.
 fn clear_row(g: Geometry, mem: &mut [u8], left: usize, y: usize, width: usize)
-    requires { ⌜ Within g left y width 1 × Fits g (now mem) ⌝ }
-    ensures { λ _. ⌜ now (mem .exit) ≡ cleared g left y width 1 (now (mem .entry)) ⌝ }
+    requires { ⌜ Within g (rectAt left y width 1) × Fits g (now mem) ⌝ }
+    ensures { λ _. ⌜ now (mem .exit) ≡ cleared g (rectAt left y width 1) (now (mem .entry)) ⌝ }
 {
     for j in 0..width {
         let a = at(g, left + j, y);
@@ -32,12 +33,12 @@ fn clear_row(g: Geometry, mem: &mut [u8], left: usize, y: usize, width: usize)
 }
 
 // Zeroes a rectangle.
-pub fn clear(g: Geometry, mem: &mut [u8], left: usize, top: usize, width: usize, height: usize)
-    requires { ⌜ Within g left top width height × Fits g (now mem) ⌝ }
-    ensures { λ _. ⌜ now (mem .exit) ≡ cleared g left top width height (now (mem .entry)) ⌝ }
+pub fn clear(g: Geometry, mem: &mut [u8], r: Rect)
+    requires { ⌜ Within g r × Fits g (now mem) ⌝ }
+    ensures { λ _. ⌜ now (mem .exit) ≡ cleared g r (now (mem .entry)) ⌝ }
 {
-    for r in 0..height {
-        clear_row(g, mem, left, top + r, width);
+    for i in 0..r.height {
+        clear_row(g, mem, r.left, r.top + i, r.width);
     }
 }
 
@@ -59,8 +60,8 @@ fn pull_row(
     right: usize,
     down: usize,
 )
-    requires { ⌜ Within g left y (width + right) (1 + down) × Fits g (now mem) ⌝ }
-    ensures { λ _. ⌜ now (mem .exit) ≡ pulled g left y width 1 right down (now (mem .entry)) ⌝ }
+    requires { ⌜ Within g (rectAt left y (width + right) (1 + down)) × Fits g (now mem) ⌝ }
+    ensures { λ _. ⌜ now (mem .exit) ≡ pulled g (rectAt left y width 1) right down (now (mem .entry)) ⌝ }
 {
     for j in 0..width {
         let from = at(g, left + (j + right), y + down);
@@ -71,69 +72,45 @@ fn pull_row(
 }
 
 // The same for each row of a rectangle, from the top.
-fn pull(
-    g: Geometry,
-    mem: &mut [u8],
-    left: usize,
-    top: usize,
-    width: usize,
-    height: usize,
-    right: usize,
-    down: usize,
-)
-    requires { ⌜ Within g left top (width + right) (height + down) × Fits g (now mem) ⌝ }
-    ensures { λ _. ⌜ now (mem .exit) ≡ pulled g left top width height right down (now (mem .entry)) ⌝ }
+fn pull(g: Geometry, mem: &mut [u8], r: Rect, right: usize, down: usize)
+    requires { ⌜ Within g (rectAt (r .left) (r .top) (r .width + right) (r .height + down)) × Fits g (now mem) ⌝ }
+    ensures { λ _. ⌜ now (mem .exit) ≡ pulled g r right down (now (mem .entry)) ⌝ }
 {
-    for r in 0..height {
-        pull_row(g, mem, left, top + r, width, right, down);
+    for i in 0..r.height {
+        pull_row(g, mem, r.left, r.top + i, r.width, right, down);
     }
 }
 
 // The rows of a rectangle move up, as many as `lines` says, and zeros enter below.
-pub fn scroll_up(
-    g: Geometry,
-    mem: &mut [u8],
-    left: usize,
-    top: usize,
-    width: usize,
-    height: usize,
-    lines: usize,
-)
-    requires { ⌜ Within g left top width height × Fits g (now mem) ⌝ }
-    ensures { λ _. ⌜ now (mem .exit) ≡ scrolledUp g left top width height lines (now (mem .entry)) ⌝ }
+pub fn scroll_up(g: Geometry, mem: &mut [u8], r: Rect, lines: usize)
+    requires { ⌜ Within g r × Fits g (now mem) ⌝ }
+    ensures { λ _. ⌜ now (mem .exit) ≡ scrolledUp g r lines (now (mem .entry)) ⌝ }
 {
-    let gone = least(lines, height);
-    let kept = height - gone;
-    pull(g, mem, left, top, width, kept, 0, gone);
-    clear(g, mem, left, top + kept, width, gone);
+    let gone = least(lines, r.height);
+    let kept = r.height - gone;
+    let lowest = Rect {
+        top: r.top + kept,
+        height: gone,
+        ..r
+    };
+    pull(g, mem, Rect { height: kept, ..r }, 0, gone);
+    clear(g, mem, lowest);
 }
 
 // The columns of a rectangle move left by n, and zeros enter on the right.
-pub fn move_left(
-    g: Geometry,
-    mem: &mut [u8],
-    left: usize,
-    top: usize,
-    width: usize,
-    height: usize,
-    n: usize,
-)
-    requires { ⌜ Within g left top width height × Fits g (now mem) ⌝ }
-    ensures { λ _. ⌜ now (mem .exit) ≡ movedLeft g left top width height n (now (mem .entry)) ⌝ }
+pub fn move_left(g: Geometry, mem: &mut [u8], r: Rect, n: usize)
+    requires { ⌜ Within g r × Fits g (now mem) ⌝ }
+    ensures { λ _. ⌜ now (mem .exit) ≡ movedLeft g r n (now (mem .entry)) ⌝ }
 {
-    let gone = least(n, width);
-    let kept = width - gone;
-    pull(g, mem, left, top, kept, height, gone, 0);
-    clear(g, mem, left + kept, top, gone, height);
-}
-
-// Stores one byte.
-pub fn put(g: Geometry, mem: &mut [u8], x: usize, y: usize, v: u8)
-    requires { ⌜ Within g x y 1 1 × Fits g (now mem) ⌝ }
-    ensures { λ _. ⌜ now (mem .exit) ≡ stored g x y v (now (mem .entry)) ⌝ }
-{
-    let a = at(g, x, y);
-    mem[a] = v;
+    let gone = least(n, r.width);
+    let kept = r.width - gone;
+    let last = Rect {
+        left: r.left + kept,
+        width: gone,
+        ..r
+    };
+    pull(g, mem, Rect { width: kept, ..r }, gone, 0);
+    clear(g, mem, last);
 }
 
 // ---- spans
@@ -149,26 +126,41 @@ fn grow_columns(p: Span, left: usize, width: usize) -> Span
 }
 
 // Row y's span, grown by the columns of a rectangle on that row.
-fn grow_row(p: Span, y: usize, left: usize, top: usize, width: usize, height: usize) -> Span
-    requires { ⌜ (left + width < 65536) × (top + height < 65536) ⌝ }
-    ensures { λ r. ⌜ r ≡ grownRect left top width height y p ⌝ }
+fn grow_row(p: Span, y: usize, r: Rect) -> Span
+    requires { ⌜ (r .left + r .width < 65536) × (r .top + r .height < 65536) ⌝ }
+    ensures { λ q. ⌜ q ≡ grownBy r y p ⌝ }
 {
-    let reached = (0 < width) & ((top <= y) & (y < top + height));
+    let reached = (0 < r.width) & ((r.top <= y) & (y < r.top + r.height));
     if reached {
-        grow_columns(p, left, width)
+        grow_columns(p, r.left, r.width)
     } else {
         p
     }
 }
 
 // Both rows' spans, grown by a rectangle.
-pub fn mark(spans: [Span; 2], left: usize, top: usize, width: usize, height: usize) -> [Span; 2]
-    requires { ⌜ (left + width < 65536) × (top + height < 65536) ⌝ }
-    ensures { λ r. ⌜ r ≡ markRect left top width height spans ⌝ }
+pub fn mark(spans: [Span; 2], r: Rect) -> [Span; 2]
+    requires { ⌜ (r .left + r .width < 65536) × (r .top + r .height < 65536) ⌝ }
+    ensures { λ ps. ⌜ ps ≡ markRect r spans ⌝ }
 {
-    let above = grow_row(spans[0], 0, left, top, width, height);
-    let below = grow_row(spans[1], 1, left, top, width, height);
+    let above = grow_row(spans[0], 0, r);
+    let below = grow_row(spans[1], 1, r);
     [above, below]
+}
+
+// Zeroes all of memory, and marks all of it.
+pub fn erase(g: Geometry, mem: &mut [u8], spans: [Span; 2]) -> [Span; 2]
+    requires { ⌜ Fits g (now mem) × ((g .columns < 65536) × (g .rows < 65536)) ⌝ }
+    ensures { λ ps. ⌜ (now (mem .exit) ≡ cleared g (memoryRect g) (now (mem .entry))) × (ps ≡ markRect (memoryRect g) spans) ⌝ }
+{
+    let all = Rect {
+        left: 0,
+        top: 0,
+        width: g.columns,
+        height: g.rows,
+    };
+    clear(g, mem, all);
+    mark(spans, all)
 }
 
 // How many of a span's columns are visible.

@@ -9,13 +9,15 @@ use lib.Dec.{ltb, lt→ltb, eqb→eq}
 use lib.ListN.{length, getD, take}
 use lib.Seq.{ext-getD, length-take-le, getD-take}
 use Rattle.paper.specs.declared.Geometry.{Geometry}
+use Rattle.paper.specs.declared.Rect.{Rect}
 use Rattle.paper.specs.declared.Span.{Span}
 use Rattle.paper.specs.Panel.{columnOf, rowOf, glassLength}
-use Rattle.paper.specs.Strokes.{Stroke, among, applied, applyAll, noSpan, isNothing, grown, grownBy, marked, markAll, refreshed}
-use Rattle.paper.specs.Cells.{eraseStroke}
+use Rattle.paper.specs.Strokes.{Stroke, among, applied, applyAll, noSpan, isNothing, grown, grownBy, markRect, marked, markAll, refreshed}
+use Rattle.paper.specs.Cells.{memoryRect, eraseStroke}
 use Rattle.laws_memory.proofs.Tests.{test-cases, is-false, not-both, cond-yes, cond-cases, and-i, among-test}
 use Rattle.laws_memory.proofs.Addresses.{column-lt, row-lt}
-use Rattle.laws_memory.proofs.Strokes.{InStroke, applied-length, applied-out}
+use Rattle.laws_memory.proofs.Rects.{InRect}
+use Rattle.laws_memory.proofs.Strokes.{applied-length, applied-out}
 use Rattle.laws_memory.proofs.Spans.{getD-marked, mark-length}
 use Rattle.laws_memory.proofs.Glass.{Holds, covered, Covered, covered-facts, covered-test, refreshed-length, refreshed-in, refreshed-out}
 use Rattle.laws_glass.specs.Synced.{Synced}
@@ -35,32 +37,32 @@ module _ (p : Span) (first end x : ℕ) where
   unfolding grown
   grown-new h k = cond-cases (λ (q : Span). Holds q x) (isNothing p) (λ t. (h, k)) (λ t. omega arith)
 
-module _ (s : Stroke) (y : ℕ) (p : Span) (x : ℕ) where
-  row-old : Holds p x → Holds (grownBy s y p) x
+module _ (q : Rect) (y : ℕ) (p : Span) (x : ℕ) where
+  row-old : Holds p x → Holds (grownBy q y p) x
   unfolding grownBy
   row-old h =
-      cond-cases (λ (q : Span). Holds q x) (ltb 0 (s .width) && among (s .top) (s .height) y)
-      (λ t. grown-old p (s .left) (s .left + s .width) x h) (λ t. h)
+      cond-cases (λ (r : Span). Holds r x) (ltb 0 (q .width) && among (q .top) (q .height) y)
+      (λ t. grown-old p (q .left) (q .left + q .width) x h) (λ t. h)
 
-  row-new : s .left ≤ x → x < s .left + s .width → s .top ≤ y → y < s .top + s .height → Holds (grownBy s y p) x
+  row-new : q .left ≤ x → x < q .left + q .width → q .top ≤ y → y < q .top + q .height → Holds (grownBy q y p) x
   unfolding grownBy
   row-new hl hr ht hb =
-      rw (cond-yes (ltb 0 (s .width) && among (s .top) (s .height) y) (grown p (s .left) (s .left + s .width)) p
-      (and-i (ltb 0 (s .width)) (among (s .top) (s .height) y) (lt→ltb 0 (s .width) (omega arith))
-      (among-test (s .top) (s .height) y (ht, hb))))
-      (grown-new p (s .left) (s .left + s .width) x hl hr)
+      rw (cond-yes (ltb 0 (q .width) && among (q .top) (q .height) y) (grown p (q .left) (q .left + q .width)) p
+      (and-i (ltb 0 (q .width)) (among (q .top) (q .height) y) (lt→ltb 0 (q .width) (omega arith))
+      (among-test (q .top) (q .height) y (ht, hb))))
+      (grown-new p (q .left) (q .left + q .width) x hl hr)
 
--- the span of an address's row after a stroke
-module _ (g : Geometry) (ps : List Span) (s : Stroke) (a : ℕ) (rows : length ps ≡ g .rows) (l : a < glassLength g) where
-  covered-by : Holds (grownBy s (rowOf g a) (getD ps (rowOf g a) noSpan)) (columnOf g a) → Covered g (marked ps s) a
-  covered-by h = let k = row-lt g a (g .visible) l in rw (getD-marked s ps (rowOf g a) (omega arith)) h
+-- the span of an address's row after a rectangle is marked
+module _ (g : Geometry) (ps : List Span) (q : Rect) (a : ℕ) (rows : length ps ≡ g .rows) (l : a < glassLength g) where
+  covered-by : Holds (grownBy q (rowOf g a) (getD ps (rowOf g a) noSpan)) (columnOf g a) → Covered g (markRect q ps) a
+  covered-by h = let k = row-lt g a (g .visible) l in rw (getD-marked q ps (rowOf g a) (omega arith)) h
 
-  covered-old : Covered g ps a → Covered g (marked ps s) a
-  covered-old h = covered-by (row-old s (rowOf g a) (getD ps (rowOf g a) noSpan) (columnOf g a) h)
+  covered-old : Covered g ps a → Covered g (markRect q ps) a
+  covered-old h = covered-by (row-old q (rowOf g a) (getD ps (rowOf g a) noSpan) (columnOf g a) h)
 
-  covered-new : InStroke g s a → Covered g (marked ps s) a
+  covered-new : InRect g q a → Covered g (markRect q ps) a
   covered-new i =
-      covered-by (row-new s (rowOf g a) (getD ps (rowOf g a) noSpan) (columnOf g a) (i .0) (i .1) (i .2) (i .3))
+      covered-by (row-new q (rowOf g a) (getD ps (rowOf g a) noSpan) (columnOf g a) (i .0) (i .1) (i .2) (i .3))
 
 -- ---- strokes
 
@@ -75,15 +77,15 @@ pub stroke-synced : (g : Geometry) (m glass : List ℕ) (ps : List Span) (s : St
     → glassLength g ≤ length m → Synced g m glass ps → Synced g (applied g m s) glass (marked ps s)
 stroke-synced g m glass ps s rows size synced a l e =
     let free = covered-not g (marked ps s) a e in
-    synced a l (not-covered g ps a (λ h. free (covered-old g ps s a rows l h)))
-    ∙ sym (applied-out g m s a (omega arith) (λ i. free (covered-new g ps s a rows l i)))
+    synced a l (not-covered g ps a (λ h. free (covered-old g ps (s .rect) a rows l h)))
+    ∙ sym (applied-out g m s a (omega arith) (λ i. free (covered-new g ps (s .rect) a rows l i)))
 
 -- strokes with their growth
 pub strokes-synced : (g : Geometry) (m glass : List ℕ) (ps : List Span) (ss : List Stroke) → length ps ≡ g .rows
     → glassLength g ≤ length m → Synced g m glass ps → Synced g (applyAll g m ss) glass (markAll ps ss)
 strokes-synced g m glass ps [] rows size synced = synced
 strokes-synced g m glass ps (s ∷ ss) rows size synced =
-    strokes-synced g (applied g m s) glass (marked ps s) ss (mark-length s ps ∙ rows)
+    strokes-synced g (applied g m s) glass (marked ps s) ss (mark-length (s .rect) ps ∙ rows)
     (omega (arith, applied-length g m s)) (stroke-synced g m glass ps s rows size synced)
 
 -- all memory marked: any glass is in step with any memory
@@ -92,7 +94,7 @@ pub erased-synced : (g : Geometry) (m glass : List ℕ) (ps : List Span) → len
 erased-synced g m glass ps rows wide a l e =
     let column = column-lt g a (g .visible) l in
     let row = row-lt g a (g .visible) l in
-    absurd (covered-not g (marked ps (eraseStroke g)) a e (covered-new g ps (eraseStroke g) a rows l (omega arith)))
+    absurd (covered-not g (marked ps (eraseStroke g)) a e (covered-new g ps (memoryRect g) a rows l (omega arith)))
 
 -- ---- refresh
 

@@ -51,11 +51,11 @@ module _ (g : Geometry) (font : List ℕ) where
   module _ (w : ℕ) (y : Style) (c d : ℕ) where
     -- a cell is as large whatever its code
     cell-marks : (v : View) (r : ℕ) (ps : List Span)
-        → markFrom (drawStroke font w y c v) r ps ≡ markFrom (drawStroke font w y d v) r ps
+        → markFrom (drawStroke font w y c v .rect) r ps ≡ markFrom (drawStroke font w y d v .rect) r ps
     unfolding grownBy
     cell-marks v r [] = refl
     cell-marks v r (p ∷ ps) =
-        ap (λ (l : List Span). grownBy (drawStroke font w y c v) r p ∷ l) (cell-marks v (suc r) ps)
+        ap (λ (l : List Span). grownBy (drawStroke font w y c v .rect) r p ∷ l) (cell-marks v (suc r) ps)
 
     -- draw, HT
     draw-alike : (v : View) → Alike (drawTab g font w y c v) (drawTab g font w y d v)

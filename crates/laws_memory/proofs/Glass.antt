@@ -12,7 +12,7 @@ use lib.Seq.{take-suc, getD-take}
 use Rattle.paper.specs.declared.Geometry.{Geometry}
 use Rattle.paper.specs.declared.Span.{Span}
 use Rattle.paper.specs.Panel.{columnOf, rowOf, glassLength}
-use Rattle.paper.specs.Strokes.{noSpan, spanHolds, refreshed, shown, shownAll}
+use Rattle.paper.specs.Strokes.{rectAt, noSpan, spanHolds, refreshed, shown, shownAll}
 use Rattle.laws_memory.specs.Glass.{Shows, copied}
 use Rattle.laws_memory.proofs.Tests.{test-cases, eq-cases, cond-yes, cond-no, and-i, and-0, and-1}
 use Rattle.laws_memory.proofs.Addresses.{at-place, column-lt}
@@ -124,19 +124,19 @@ refreshed-none g m glass = refreshed-by g m [] glass glass refl (λ a l h. absur
 module _ (g : Geometry) (m : List ℕ) (y : ℕ) (p : Span) (glass : List ℕ) where
   copied-length : length (copied g m y p glass) ≡ length glass
   unfolding copied
-  copied-length = rect-length g (p .first) y (shown g p) 1 _ glass
+  copied-length = rect-length g (rectAt (p .first) y (shown g p) 1) _ glass
 
   copied-in : (a : ℕ) → a < length glass → rowOf g a ≡ y → Seen g p (columnOf g a)
       → getD (copied g m y p glass) a 0 ≡ getD m a 0
   unfolding copied
   copied-in a l e h =
-      rect-in g (p .first) y (shown g p) 1 _ glass a l (omega arith)
+      rect-in g (rectAt (p .first) y (shown g p) 1) _ glass a l (omega arith)
       ∙ ap (λ (t : ℕ). getD m t 0) (sym (at-place g a _ _ (omega arith) (omega arith)))
 
   copied-out : (a : ℕ) → a < length glass → (rowOf g a ≡ y → Seen g p (columnOf g a) → ⊥)
       → getD (copied g m y p glass) a 0 ≡ getD glass a 0
   unfolding copied
-  copied-out a l o = rect-out g (p .first) y (shown g p) 1 _ glass a l (λ i. o (omega arith) (i .0, i .1))
+  copied-out a l o = rect-out g (rectAt (p .first) y (shown g p) 1) _ glass a l (λ i. o (omega arith) (i .0, i .1))
 
 refreshed-more : (g : Geometry) (m : List ℕ) (ps : List Span) (y : ℕ) (glass : List ℕ) → length glass ≡ glassLength g
     → copied g m y (getD ps y noSpan) (refreshed g m (take y ps) glass) ≡ refreshed g m (take (suc y) ps) glass

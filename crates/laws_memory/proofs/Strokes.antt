@@ -1,64 +1,59 @@
 -- Strokes: the leaves as the paper's strokes, and what one stroke, or a list of them, does to a memory. Assumes nothing.
 use mathlib.Core.Path.{_≡_, refl, _∙_}
 use mathlib.Core.List.{List, [], _∷_, _++_}
-use Prim.Native.Nat.{ℕ, _+_, _-_, _<_, min}
+use Prim.Native.Nat.{ℕ, _+_, _-_, _<_}
 use lib.ListN.{length, getD}
 use Rattle.paper.specs.declared.Geometry.{Geometry}
 use Rattle.paper.specs.declared.View.{View}
 use Rattle.paper.specs.Panel.{address, columnOf, rowOf}
 use Rattle.paper.specs.Strokes.{Stroke, rectMap, applied, applyAll}
-use Rattle.paper.specs.Cells.{clearStroke, eraseStroke, upStroke, leftStroke}
+use Rattle.paper.specs.Cells.{memoryRect, rangeOf, rowsOf, clearStroke, eraseStroke, upStroke, leftStroke}
 use Rattle.laws_memory.specs.Rectangles.{Bytes, cleared, scrolledUp, movedLeft}
 use Rattle.laws_memory.proofs.Rects.{Change, InRect, rect-length, rect-in, rect-out, rect-same, rect-bytes}
 
 -- ---- the leaves
 
 module _ (g : Geometry) (m : List ℕ) (v : View) where
-  pub clear-stroke : cleared g (v .left) (v .top) (v .width) (v .height) m ≡ applied g m (clearStroke v)
+  pub clear-stroke : cleared g (rangeOf v) m ≡ applied g m (clearStroke v)
   unfolding cleared
   clear-stroke = refl
 
-  pub up-stroke : (l : ℕ) → scrolledUp g (v .left) (v .top) (v .width) (v .height) l m ≡ applied g m (upStroke g v l)
+  pub up-stroke : (l : ℕ) → scrolledUp g (rangeOf v) l m ≡ applied g m (upStroke g v l)
   unfolding scrolledUp
   up-stroke l = refl
 
-  pub left-stroke : (l n : ℕ)
-      → movedLeft g (v .left) (v .top + v .y) (v .width) (min l (v .height - v .y)) n m ≡ applied g m (leftStroke g v l n)
+  pub left-stroke : (l n : ℕ) → movedLeft g (rowsOf v l) n m ≡ applied g m (leftStroke g v l n)
   unfolding movedLeft
   left-stroke l n = refl
 
-pub erase-stroke : (g : Geometry) (m : List ℕ) → cleared g 0 0 (g .columns) (g .rows) m ≡ applied g m (eraseStroke g)
+pub erase-stroke : (g : Geometry) (m : List ℕ) → cleared g (memoryRect g) m ≡ applied g m (eraseStroke g)
 unfolding cleared
 erase-stroke g m = refl
 
 -- ---- one stroke
 
--- address a lies in the stroke's rectangle
-abbrev pub InStroke : Geometry → Stroke → ℕ → Type 0
-InStroke g s a = InRect g (s .left) (s .top) (s .width) (s .height) a
-
 module _ (g : Geometry) (m : List ℕ) (s : Stroke) where
   pub applied-length : length (applied g m s) ≡ length m
-  applied-length = rect-length g (s .left) (s .top) (s .width) (s .height) (s .byte m) m
+  applied-length = rect-length g (s .rect) (s .byte m) m
 
   -- what stands in its rectangle afterwards
-  pub applied-in : (a : ℕ) → a < length m → InStroke g s a
-      → getD (applied g m s) a 0 ≡ s .byte m (columnOf g a - s .left) (rowOf g a - s .top) (getD m a 0)
-  applied-in = rect-in g (s .left) (s .top) (s .width) (s .height) (s .byte m) m
+  pub applied-in : (a : ℕ) → a < length m → InRect g (s .rect) a
+      → getD (applied g m s) a 0 ≡ s .byte m (columnOf g a - s .rect .left) (rowOf g a - s .rect .top) (getD m a 0)
+  applied-in = rect-in g (s .rect) (s .byte m) m
 
   -- what lies outside is unchanged
-  pub applied-out : (a : ℕ) → a < length m → (InStroke g s a → ⊥) → getD (applied g m s) a 0 ≡ getD m a 0
-  applied-out = rect-out g (s .left) (s .top) (s .width) (s .height) (s .byte m) m
+  pub applied-out : (a : ℕ) → a < length m → (InRect g (s .rect) a → ⊥) → getD (applied g m s) a 0 ≡ getD m a 0
+  applied-out = rect-out g (s .rect) (s .byte m) m
 
   -- bytes that agree with the stroke's inside its rectangle give the same memory
   pub applied-same : (f : Change)
-      → ((j r : ℕ) → j < s .width → r < s .height
-      → let b = getD m (address g (s .left + j) (s .top + r)) 0 in f j r b ≡ s .byte m j r b)
-      → rectMap g (s .left) (s .top) (s .width) (s .height) f m ≡ applied g m s
-  applied-same f = rect-same g (s .left) (s .top) (s .width) (s .height) f (s .byte m) m
+      → ((j r : ℕ) → j < s .rect .width → r < s .rect .height
+      → let b = getD m (address g (s .rect .left + j) (s .rect .top + r)) 0 in f j r b ≡ s .byte m j r b)
+      → rectMap g (s .rect) f m ≡ applied g m s
+  applied-same f = rect-same g (s .rect) f (s .byte m) m
 
   pub applied-bytes : ((j r b : ℕ) → b < 256 → s .byte m j r b < 256) → Bytes m → Bytes (applied g m s)
-  applied-bytes = rect-bytes g (s .left) (s .top) (s .width) (s .height) (s .byte m) m
+  applied-bytes = rect-bytes g (s .rect) (s .byte m) m
 
 -- ---- strokes in a row
 

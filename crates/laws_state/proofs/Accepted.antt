@@ -17,6 +17,7 @@ use Rattle.paper.specs.Strokes.{Stroke}
 use Rattle.paper.specs.Settings.{initialStyle, initialSettings, topLeft, initialState, inDomain, inEnlargement, withHalf, withSpans, windowAt, isDefined, selectable, fits, newWindow, defined, cursorOf, cursor, inMode, insideWindow, viewOf}
 use Rattle.paper.specs.Bounds.{settingsOk, isBlank, windowOk, windowsOk, holdOk, spansOk, halfOk, accepted}
 use Rattle.paper.specs.Moves.{Moved}
+use Rattle.paper.specs.Cells.{memoryRect, rangeOf}
 use Rattle.paper.specs.Carry.{moves, becomes, asks, widthNow, heightNow, carriedOut, imageStrokes, byteMeans}
 use Rattle.paper.specs.Calls.{Feeding, next, run, settled}
 use Rattle.laws_bytes.specs.Readings.{commandOk}
@@ -69,14 +70,10 @@ module _ (g : Geometry) (u : Usable g) where
 
   module _ (s : State) (h : accepted g s ≡ true) where
     -- what lies in the range lies in memory
-    view-inside : (ss : List Stroke)
-        → AllIn (viewOf g s .left) (viewOf g s .top) (viewOf g s .width) (viewOf g s .height) ss
-        → AllIn 0 0 (g .columns) (g .rows) ss
+    view-inside : (ss : List Stroke) → AllIn (rangeOf (viewOf g s)) ss → AllIn (memoryRect g) ss
     view-inside ss k =
         let i = view-place g u s h in
-        let v = viewOf g s in
-        all-wider (v .left) (v .top) (v .width) (v .height) 0 0 (g .columns) (g .rows)
-        (omega arith) (omega arith) (omega arith) (omega arith) ss k
+        all-wider (rangeOf (viewOf g s)) (memoryRect g) (omega arith) (omega arith) (omega arith) (omega arith) ss k
 
     -- a move of the range
     moved-sound : (t : Moved) → Kept (viewOf g s) t → Sound g (moves s t)

@@ -25,10 +25,11 @@ use Rattle.paper.specs.Strokes.{Stroke}
 use Rattle.paper.specs.Settings.{noWindow, withHalf, windowAt, withCursor, atCursor, inMode, viewOf}
 use Rattle.paper.specs.Bounds.{holdOk, halfOk, accepted}
 use Rattle.paper.specs.Moves.{Moved}
+use Rattle.paper.specs.Cells.{rangeOf}
 use Rattle.paper.specs.Carry.{Meaning, moves, becomes, isHeld, asks, widthNow, heightNow, carriedOut, imageStrokes, byteMeans}
 use Rattle.paper.specs.Calls.{isAccepted, feedRefusal, Feeding, next, run, fedNothing, feedCall, settled}
 use Rattle.laws_state.specs.Room.{Usable, AllIn, Kept}
-use Rattle.laws_state.specs.Guest.{Holding, Guest, OnlyInside}
+use Rattle.laws_state.specs.Guest.{Holding, Guest, windowRect, OnlyInside}
 use Rattle.laws_state.proofs.Tests.{by-cond}
 use Rattle.laws_state.proofs.Moves.{home-kept, return-kept, clear-kept, image-inside, ht-kept, back-kept, feed-kept, character-kept}
 use Rattle.laws_state.proofs.Parts.{parts, whole, selected-window, hold-facts}
@@ -60,7 +61,7 @@ record Stays (s r : State) : Type 0 where
 -- and what is written lies in the selected window
 record Within (s : State) (t : Meaning) : Type 0 where
   state : Stays s (t .state)
-  strokes : let w = windowAt (s .windows) (s .selected) in AllIn (w .left) (w .top) (w .width) (w .height) (t .strokes)
+  strokes : AllIn (windowRect (windowAt (s .windows) (s .selected))) (t .strokes)
 
 -- what changes neither the hold nor a window
 unmoved : (s r : State) → r .hold ≡ s .hold → r .selected ≡ s .selected → r .base ≡ s .base → r .windows ≡ s .windows
@@ -99,11 +100,9 @@ module _ (s : State) (user : eqb (s .selected) 0 ≡ false) where
       })
 
   -- what lies in the range lies in the window
-  window-inside : (g : Geometry) (ss : List Stroke)
-      → AllIn (viewOf g s .left) (viewOf g s .top) (viewOf g s .width) (viewOf g s .height) ss
-      → let w = windowAt (s .windows) (s .selected) in AllIn (w .left) (w .top) (w .width) (w .height) ss
-  window-inside g ss =
-      subst (λ (q : View). AllIn (q .left) (q .top) (q .width) (q .height) ss) (view-window g s user)
+  window-inside : (g : Geometry) (ss : List Stroke) → AllIn (rangeOf (viewOf g s)) ss
+      → AllIn (windowRect (windowAt (s .windows) (s .selected))) ss
+  window-inside g ss = subst (λ (q : View). AllIn (rangeOf q) ss) (view-window g s user)
 
   -- a move of the range
   moved-within : (g : Geometry) (t : Moved) → Kept (viewOf g s) t → Within s (moves s t)
@@ -217,8 +216,7 @@ module _ (g : Geometry) (u : Usable g) (font : List ℕ) (k back : ℕ) (v : Set
     within = byte-within g u font s b (i .accepts) (ap isHeld (i .held)) (is-user g k back v s i)
 
     -- a guest's byte writes in the window held
-    pub byte-inside : let w = windowAt (s .windows) k in
-        AllIn (w .left) (w .top) (w .width) (w .height) (byteMeans g font s b .strokes)
+    pub byte-inside : AllIn (windowRect (windowAt (s .windows) k)) (byteMeans g font s b .strokes)
     byte-inside = rw (is-selected g k back v s i .1) (within .strokes)
 
     -- after it the window is held as before
@@ -265,12 +263,11 @@ module _ (g : Geometry) (u : Usable g) (font : List ℕ) (k back : ℕ) (v : Set
   run-outside f [] i = record { same = λ a out. refl }
   run-outside f (b ∷ bs) i =
       let s = f .answer .state in
-      let w = windowAt (s .windows) k in
       let q = byte-guest s i b in
       record {
         same = λ a out.
             run-outside (next g font f b) bs (byte-holding s i b) .same a (rw (q .left, q .top, q .width, q .height) out)
-            ∙ isolated g (w .left) (w .top) (w .width) (w .height) a out (f .mem) (byteMeans g font s b .strokes)
+            ∙ isolated g (windowRect (windowAt (s .windows) k)) a out (f .mem) (byteMeans g font s b .strokes)
             (byte-inside s i b);
       }
 

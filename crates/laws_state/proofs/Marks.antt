@@ -8,8 +8,10 @@ use lib.Dec.{leb, ltb}
 use lib.ListN.{getD, replicate}
 use borrow.Author.Tests.{leb-true, le-leb, ltb-true, lt-ltb, eqb-true}
 use Rattle.paper.specs.declared.Geometry.{Geometry}
+use Rattle.paper.specs.declared.Rect.{Rect}
 use Rattle.paper.specs.declared.Span.{Span}
 use Rattle.paper.specs.Strokes.{Stroke, among, noSpan, isNothing, spanHolds, grown, grownBy, markFrom, marked, markAll}
+use Rattle.paper.specs.Cells.{memoryRect}
 use Rattle.paper.specs.Bounds.{spanOk, spansOk}
 use Rattle.laws_memory.proofs.Spans.{marked-ok}
 use Rattle.laws_bytes.proofs.Tests.{both-of}
@@ -26,10 +28,10 @@ module _ (g : Geometry) where
   empty-ok (suc n) = empty-ok n
 
   -- strokes in memory keep the spans in bounds
-  pub marks-ok : (ps : List Span) (ss : List Stroke) → AllIn 0 0 (g .columns) (g .rows) ss → spansOk g ps ≡ true
+  pub marks-ok : (ps : List Span) (ss : List Stroke) → AllIn (memoryRect g) ss → spansOk g ps ≡ true
       → spansOk g (markAll ps ss) ≡ true
   marks-ok ps [] i h = h
-  marks-ok ps (s ∷ ss) i h = marks-ok (marked ps s) ss (i .1) (marked-ok g s ps (let k = i .0 in omega arith) h)
+  marks-ok ps (s ∷ ss) i h = marks-ok (marked ps s) ss (i .1) (marked-ok g (s .rect) ps (let k = i .0 in omega arith) h)
 
 -- ---- growing
 
@@ -43,22 +45,22 @@ grown-holds p first end x h =
     by-cond (λ (q : Span). spanHolds q x ≡ true) (isNothing p) (λ e. let n = eqb-true (p .end) 0 e in absurd (omega arith))
     (λ _. rw (le-leb (min (p .first) first) x (omega arith), lt-ltb x (max (p .end) end) (omega arith)))
 
--- and after a stroke
-row-holds : (s : Stroke) (y : ℕ) (p : Span) (x : ℕ) → spanHolds p x ≡ true → spanHolds (grownBy s y p) x ≡ true
+-- and after a rectangle is marked
+row-holds : (q : Rect) (y : ℕ) (p : Span) (x : ℕ) → spanHolds p x ≡ true → spanHolds (grownBy q y p) x ≡ true
 unfolding grownBy
-row-holds s y p x h =
-    by-cond (λ (q : Span). spanHolds q x ≡ true) (ltb 0 (s .width) && among (s .top) (s .height) y)
-    (λ _. grown-holds p (s .left) (s .left + s .width) x h) (λ _. h)
+row-holds q y p x h =
+    by-cond (λ (r : Span). spanHolds r x ≡ true) (ltb 0 (q .width) && among (q .top) (q .height) y)
+    (λ _. grown-holds p (q .left) (q .left + q .width) x h) (λ _. h)
 
 -- on each row
-rows-hold : (s : Stroke) (y : ℕ) (ps : List Span) (r x : ℕ) → spanHolds (getD ps r noSpan) x ≡ true
-    → spanHolds (getD (markFrom s y ps) r noSpan) x ≡ true
-rows-hold s y [] r x h = h
-rows-hold s y (p ∷ ps) zero x h = row-holds s y p x h
-rows-hold s y (p ∷ ps) (suc r) x h = rows-hold s (suc y) ps r x h
+rows-hold : (q : Rect) (y : ℕ) (ps : List Span) (r x : ℕ) → spanHolds (getD ps r noSpan) x ≡ true
+    → spanHolds (getD (markFrom q y ps) r noSpan) x ≡ true
+rows-hold q y [] r x h = h
+rows-hold q y (p ∷ ps) zero x h = row-holds q y p x h
+rows-hold q y (p ∷ ps) (suc r) x h = rows-hold q (suc y) ps r x h
 
 -- a column that row r's span holds is held after any strokes
 pub marks-hold : (ps : List Span) (ss : List Stroke) (r x : ℕ) → spanHolds (getD ps r noSpan) x ≡ true
     → spanHolds (getD (markAll ps ss) r noSpan) x ≡ true
 marks-hold ps [] r x h = h
-marks-hold ps (s ∷ ss) r x h = marks-hold (marked ps s) ss r x (rows-hold s 0 ps r x h)
+marks-hold ps (s ∷ ss) r x h = marks-hold (marked ps s) ss r x (rows-hold (s .rect) 0 ps r x h)

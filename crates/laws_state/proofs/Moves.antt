@@ -7,10 +7,11 @@ use native.Mathlib.Omega.{arith}
 use lib.Dec.{leb, ltb, eqb}
 use borrow.Author.Tests.{leb-true, ltb-true}
 use Rattle.paper.specs.declared.Geometry.{Geometry}
+use Rattle.paper.specs.declared.Rect.{Rect}
 use Rattle.paper.specs.declared.Style.{Style}
 use Rattle.paper.specs.declared.View.{View}
 use Rattle.paper.specs.Strokes.{Rule, draw, wrapBlank, Stroke}
-use Rattle.paper.specs.Cells.{Dots, cellDot, allOff, cellWidth, cellHeight, cellStroke, drawStroke, blankStroke, upStroke, leftStroke}
+use Rattle.paper.specs.Cells.{Dots, cellDot, allOff, cellWidth, cellHeight, rangeOf, cellStroke, drawStroke, blankStroke, upStroke, leftStroke}
 use Rattle.paper.specs.Moves.{Moved, only, writing, andThen, to, nextLine, nextLineUp, pushLeft, htOf, drawTab, blankTab, characterOf, backOf, lineDown, lineDownUp, lineFeedOf, homeOf, returnOf, clearOf}
 use Rattle.paper.specs.Carry.{imageStrokes}
 use Rattle.laws_bytes.proofs.Tests.{both-of}
@@ -20,18 +21,15 @@ use Rattle.laws_state.proofs.Tests.{by-cond}
 -- ---- strokes in a rectangle
 
 -- strokes in a rectangle, and others in it after them
-pub all-append : (left top width height : ℕ) (a b : List Stroke) → AllIn left top width height a → AllIn left top width height b
-    → AllIn left top width height (a ++ b)
-all-append left top width height [] b p q = q
-all-append left top width height (s ∷ a) b p q = (p .0, all-append left top width height a b (p .1) q)
+pub all-append : (q : Rect) (a b : List Stroke) → AllIn q a → AllIn q b → AllIn q (a ++ b)
+all-append q [] b i j = j
+all-append q (s ∷ a) b i j = (i .0, all-append q a b (i .1) j)
 
 -- a larger rectangle holds them too
-pub all-wider : (left top width height left′ top′ width′ height′ : ℕ) → left′ ≤ left → left + width ≤ left′ + width′
-    → top′ ≤ top → top + height ≤ top′ + height′
-    → (ss : List Stroke) → AllIn left top width height ss → AllIn left′ top′ width′ height′ ss
-all-wider left top width height left′ top′ width′ height′ a b c d [] i = tt
-all-wider left top width height left′ top′ width′ height′ a b c d (s ∷ ss) i =
-    (omega arith, all-wider left top width height left′ top′ width′ height′ a b c d ss (i .1))
+pub all-wider : (q q′ : Rect) → q′ .left ≤ q .left → q .left + q .width ≤ q′ .left + q′ .width
+    → q′ .top ≤ q .top → q .top + q .height ≤ q′ .top + q′ .height → (ss : List Stroke) → AllIn q ss → AllIn q′ ss
+all-wider q q′ a b c d [] i = tt
+all-wider q q′ a b c d (s ∷ ss) i = (omega arith, all-wider q q′ a b c d ss (i .1))
 
 -- ---- one move after another
 
@@ -48,9 +46,8 @@ module _ (v : View) (t : Moved) where
         x = omega arith;
         y = omega arith;
         inside =
-            all-append (v .left) (v .top) (v .width) (v .height) (t .strokes) (f (t .view) .strokes) (p .inside)
-            (all-wider (t .view .left) (t .view .top) (t .view .width) (t .view .height)
-            (v .left) (v .top) (v .width) (v .height)
+            all-append (rangeOf v) (t .strokes) (f (t .view) .strokes) (p .inside)
+            (all-wider (rangeOf (t .view)) (rangeOf v)
             (omega arith) (omega arith) (omega arith) (omega arith) (f (t .view) .strokes) (q .inside));
       }
 
@@ -71,8 +68,8 @@ module _ (v : View) where
       record { left = refl; top = refl; width = refl; height = refl; mode = refl; x = hx; y = hy; inside = tt }
 
   -- after a stroke inside the range
-  pub writing-kept : (s : Stroke) (x y : ℕ) → x < v .width → y < v .height
-      → Inside (v .left) (v .top) (v .width) (v .height) s → Kept v (writing s (to v x y))
+  pub writing-kept : (s : Stroke) (x y : ℕ) → x < v .width → y < v .height → Inside (rangeOf v) s
+      → Kept v (writing s (to v x y))
   writing-kept s x y hx hy i =
       record { left = refl; top = refl; width = refl; height = refl; mode = refl; x = hx; y = hy; inside = (i, tt) }
 
@@ -95,11 +92,10 @@ module _ (v : View) where
   cell-kept g i rule y c d = writing-kept _ (v .x) (v .y) (i .x) (i .y) (omega arith)
 
   -- an image byte, stored or outside the range
-  pub image-inside : (y : Style) (column row b : ℕ)
-      → AllIn (v .left) (v .top) (v .width) (v .height) (imageStrokes v y column row b)
+  pub image-inside : (y : Style) (column row b : ℕ) → AllIn (rangeOf v) (imageStrokes v y column row b)
   unfolding imageStrokes
   image-inside y column row b =
-      by-cond (AllIn (v .left) (v .top) (v .width) (v .height)) (ltb (v .x + column) (v .width) && ltb (v .y + row) (v .height))
+      by-cond (AllIn (rangeOf v)) (ltb (v .x + column) (v .width) && ltb (v .y + row) (v .height))
       (λ e.
       let f = both-of (ltb (v .x + column) (v .width)) (ltb (v .y + row) (v .height)) e in
       let x = ltb-true (v .x + column) (v .width) (f .0) in

@@ -6,6 +6,7 @@ use Prim.Native.Nat.{ℕ}
 use native.Mathlib.Omega.{arith}
 use lib.ListN.{length, getD, List·getD-eq-default}
 use Rattle.paper.specs.declared.Geometry.{Geometry}
+use Rattle.paper.specs.declared.Rect.{Rect}
 use Rattle.paper.specs.Strokes.{Stroke, inRect, applied, applyAll}
 use Rattle.paper.specs.Carry.{byteMeans}
 use Rattle.paper.specs.Calls.{Feeding, next, run}
@@ -22,18 +23,18 @@ module _ (g : Geometry) where
   length-run font f (b ∷ bs) =
       length-run font (next g font f b) bs ∙ apply-length g (f .mem) (byteMeans g font (f .answer .state) b .strokes)
 
-  module _ (left top width height a : ℕ) (out : inRect g left top width height a ≡ false) where
+  module _ (q : Rect) (a : ℕ) (out : inRect g q a ≡ false) where
     -- a stroke in a rectangle leaves what lies outside it; past the memory's end there is nothing
-    stroke-outside : (m : List ℕ) (s : Stroke) → Inside left top width height s → getD (applied g m s) a 0 ≡ getD m a 0
+    stroke-outside : (m : List ℕ) (s : Stroke) → Inside q s → getD (applied g m s) a 0 ≡ getD m a 0
     stroke-outside m s i =
         lt-cases a (length m)
-        (λ l. applied-out g m s a l (λ f. not-both (inRect g left top width height a) out (rect-test g left top width height a (inner f))))
+        (λ l. applied-out g m s a l (λ f. not-both (inRect g q a) out (rect-test g q a (inner f))))
         (λ l. List·getD-eq-default (applied g m s) 0 (omega (arith, applied-length g m s)) ∙ sym (List·getD-eq-default m 0 l))
       where
-        inner : InRect g (s .left) (s .top) (s .width) (s .height) a → InRect g left top width height a
+        inner : InRect g (s .rect) a → InRect g q a
         inner f = omega arith
 
     -- and so do several
-    pub isolated : (m : List ℕ) (ss : List Stroke) → AllIn left top width height ss → getD (applyAll g m ss) a 0 ≡ getD m a 0
+    pub isolated : (m : List ℕ) (ss : List Stroke) → AllIn q ss → getD (applyAll g m ss) a 0 ≡ getD m a 0
     isolated m [] i = refl
     isolated m (s ∷ ss) i = isolated (applied g m s) ss (i .1) ∙ stroke-outside m s (i .0)

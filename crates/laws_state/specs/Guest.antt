@@ -5,10 +5,12 @@ use mathlib.Core.List.{List}
 use Prim.Native.Nat.{ℕ, _<_, _≤_}
 use lib.ListN.{getD}
 use Rattle.paper.specs.declared.Geometry.{Geometry}
+use Rattle.paper.specs.declared.Rect.{Rect}
 use Rattle.paper.specs.declared.Settings.{Settings}
 use Rattle.paper.specs.declared.Hold.the-variants.{Held}
 use Rattle.paper.specs.declared.State.{State}
-use Rattle.paper.specs.Strokes.{inRect}
+use Rattle.paper.specs.declared.Window.{Window}
+use Rattle.paper.specs.Strokes.{rectAt, inRect}
 use Rattle.paper.specs.Settings.{windowAt}
 use Rattle.paper.specs.Bounds.{accepted}
 
@@ -31,9 +33,10 @@ pub record Guest (k back : ℕ) (v : Settings) (s r : State) : Type 0 where
   pub x : windowAt (r .windows) k .cursor .x < windowAt (s .windows) k .width
   pub y : windowAt (r .windows) k .cursor .y < windowAt (s .windows) k .height
 
+-- the rectangle of a window
+abbrev pub windowRect : Window → Rect
+windowRect w = rectAt (w .left) (w .top) (w .width) (w .height)
+
 -- no address outside window k's rectangle changed between memory m and memory n
 pub record OnlyInside (g : Geometry) (k : ℕ) (s : State) (m n : List ℕ) : Type 0 where
-  pub same : (a : ℕ)
-      → inRect g (windowAt (s .windows) k .left) (windowAt (s .windows) k .top) (windowAt (s .windows) k .width)
-      (windowAt (s .windows) k .height) a ≡ false
-      → getD n a 0 ≡ getD m a 0
+  pub same : (a : ℕ) → inRect g (windowRect (windowAt (s .windows) k)) a ≡ false → getD n a 0 ≡ getD m a 0

@@ -4,11 +4,12 @@ use mathlib.Core.Path.{_≡_}
 use mathlib.Core.List.{List, [], _∷_}
 use Prim.Native.Nat.{ℕ, _+_, _<_, _≤_}
 use Rattle.paper.specs.declared.Geometry.{Geometry}
+use Rattle.paper.specs.declared.Rect.{Rect}
 use Rattle.paper.specs.declared.Settings.{Settings}
 use Rattle.paper.specs.declared.View.{View}
 use Rattle.paper.specs.Panel.{memoryLength}
 use Rattle.paper.specs.Strokes.{Stroke}
-use Rattle.paper.specs.Cells.{cellWidth, cellHeight}
+use Rattle.paper.specs.Cells.{cellWidth, cellHeight, rangeOf}
 use Rattle.paper.specs.Moves.{Moved}
 
 -- a geometry for which the laws hold: some rows, some visible and some hidden columns, and addresses that code can count
@@ -43,14 +44,15 @@ pub record CellSize (v : Settings) : Type 0 where
   pub high : cellHeight (v .style) ≤ 2
 
 -- a stroke's rectangle lies in a rectangle
-abbrev pub Inside : ℕ → ℕ → ℕ → ℕ → Stroke → Type 0
-Inside left top width height s =
-    (left ≤ s .left) × (s .left + s .width ≤ left + width) × (top ≤ s .top) × (s .top + s .height ≤ top + height)
+abbrev pub Inside : Rect → Stroke → Type 0
+Inside q s =
+    (q .left ≤ s .rect .left) × (s .rect .left + s .rect .width ≤ q .left + q .width)
+    × (q .top ≤ s .rect .top) × (s .rect .top + s .rect .height ≤ q .top + q .height)
 
 -- and so does each of several
-abbrev pub AllIn : ℕ → ℕ → ℕ → ℕ → List Stroke → Type 0
-AllIn left top width height [] = Unit {0}
-AllIn left top width height (s ∷ ss) = Inside left top width height s × AllIn left top width height ss
+abbrev pub AllIn : Rect → List Stroke → Type 0
+AllIn q [] = Unit {0}
+AllIn q (s ∷ ss) = Inside q s × AllIn q ss
 
 -- a move that keeps the range and the mode, leaves the cursor in the range and writes in it only
 pub record Kept (v : View) (t : Moved) : Type 0 where
@@ -61,4 +63,4 @@ pub record Kept (v : View) (t : Moved) : Type 0 where
   pub mode : t .view .mode ≡ v .mode
   pub x : t .view .x < v .width
   pub y : t .view .y < v .height
-  pub inside : AllIn (v .left) (v .top) (v .width) (v .height) (t .strokes)
+  pub inside : AllIn (rangeOf v) (t .strokes)

@@ -5,11 +5,10 @@ use Prim.Native.Nat.{ℕ}
 use Rattle.paper.specs.declared.Geometry.{Geometry}
 use Rattle.paper.specs.declared.Span.{Span}
 use Rattle.paper.specs.declared.View.{View}
-use Rattle.paper.specs.Strokes.{Stroke, applied, applyAll, markAll}
+use Rattle.paper.specs.Strokes.{Stroke, applied, applyAll, markRect, markAll}
 use Rattle.paper.specs.Moves.{Moved, only, writing, andThen}
-use Rattle.laws_memory.specs.Spans.{markRect}
 use Rattle.laws_memory.proofs.Strokes.{apply-append}
-use Rattle.laws_memory.proofs.Spans.{marked-rect, marks-append}
+use Rattle.laws_memory.proofs.Spans.{marks-append}
 use Rattle.moves.specs.declared.Spot.{Spot}
 use Rattle.moves.specs.Does.{Does, spot}
 
@@ -23,10 +22,9 @@ module _ {g : Geometry} {ps : List Span} {m : List ℕ} where
   does-only v e = record { view = ap (λ (p : Spot). p .view) e; spans = ap (λ (p : Spot). p .spans) e; mem = refl }
 
   -- a stroke was made, its rectangle was marked, and the cursor went to v
-  pub does-stroke : {u : View} {qs : List Span} {m′ : List ℕ} (s : Stroke) (v : View) → u ≡ v
-      → qs ≡ markRect (s .left) (s .top) (s .width) (s .height) ps → m′ ≡ applied g m s
-      → Does g ps m (spot u qs) m′ (writing s v)
-  does-stroke s v e k h = record { view = e; spans = k ∙ sym (marked-rect ps s); mem = h }
+  pub does-stroke : {p : Spot} {m′ : List ℕ} (s : Stroke) (v : View) → p ≡ spot v (markRect (s .rect) ps) → m′ ≡ applied g m s
+      → Does g ps m p m′ (writing s v)
+  does-stroke s v e h = record { view = ap (λ (p : Spot). p .view) e; spans = ap (λ (p : Spot). p .spans) e; mem = h }
 
   -- a move, and then the one that f makes of where it ended
   pub does-after : {p r : Spot} {m₁ m₂ : List ℕ} (t : Moved) (f : View → Moved) → Does g ps m p m₁ t

@@ -2,11 +2,13 @@
 // It may use the dots; it knows nothing of characters, windows, settings or how bytes are read.
 // Each contract says that what was done is what the paper's move of the same name means.
 use paper::Geometry;
+use paper::Rect;
 use paper::Span;
 use paper::View;
 ghost use mathlib.Core.Path.{_≡_};
 ghost use Prim.Native.Nat.{_+_, _*_, _≤_, _<_};
-ghost use Rattle.paper.specs.Cells.{upStroke};
+ghost use Rattle.paper.specs.Strokes.{markRect};
+ghost use Rattle.paper.specs.Cells.{rangeOf, upStroke};
 ghost use Rattle.paper.specs.Moves.{to, roomBelow, writing, nextLine, nextLineUp, pushLeft, htOf, backOf, lineDown, lineDownUp, lineFeedOf, clearOf};
 ghost use Rattle.laws_memory.specs.Rectangles.{Fits};
 ghost use Rattle.laws_state.specs.Room.{Usable, InMemory, Room};
@@ -28,12 +30,36 @@ pub fn to(v: View, x: usize, y: usize) -> View
 }
 
 // The spot with its cursor at (x, y); nothing is written.
-fn place(p: Spot, x: usize, y: usize) -> Spot
+pub fn place(p: Spot, x: usize, y: usize) -> Spot
     ensures { λ r. ⌜ r ≡ spot (to (p .view) x y) (p .spans) ⌝ }
 {
     let v = p.view;
     Spot {
         view: to(v, x, y),
+        ..p
+    }
+}
+
+// The range.
+fn range(v: View) -> Rect
+    ensures { λ r. ⌜ r ≡ rangeOf v ⌝ }
+{
+    Rect {
+        left: v.left,
+        top: v.top,
+        width: v.width,
+        height: v.height,
+    }
+}
+
+// The spot after a rectangle was written: its spans have grown by it.
+pub fn marked(p: Spot, r: Rect) -> Spot
+    requires { ⌜ (r .left + r .width < 65536) × (r .top + r .height < 65536) ⌝ }
+    ensures { λ q. ⌜ q ≡ spot (p .view) (markRect r (p .spans)) ⌝ }
+{
+    let before = p.spans;
+    Spot {
+        spans: dots::mark(before, r),
         ..p
     }
 }
@@ -76,12 +102,9 @@ fn scroll(g: Geometry, mem: &mut [u8], p: Spot, l: usize) -> Spot
     ensures { λ r. ⌜ Does g (p .spans) (now (mem .entry)) r (now (mem .exit)) (writing (upStroke g (p .view) l) (p .view)) ⌝ }
 {
     let v = p.view;
-    dots::scroll_up(g, mem, v.left, v.top, v.width, v.height, l);
-    let before = p.spans;
-    Spot {
-        view: v,
-        spans: dots::mark(before, v.left, v.top, v.width, v.height),
-    }
+    let r = range(v);
+    dots::scroll_up(g, mem, r, l);
+    marked(p, r)
 }
 
 // The next line of cells; without room the range scrolls up.
@@ -108,14 +131,13 @@ pub fn push_left(g: Geometry, mem: &mut [u8], p: Spot, c: usize, l: usize) -> Sp
     let x = v.x;
     let y = v.y;
     let width = v.width;
-    let top = v.top + y;
-    let height = dots::least(l, v.height - y);
-    dots::move_left(g, mem, v.left, top, width, height, x + 2 * c - width);
-    let before = p.spans;
-    Spot {
-        view: to(v, width - c, y),
-        spans: dots::mark(before, v.left, top, width, height),
-    }
+    let rows = Rect {
+        top: v.top + y,
+        height: dots::least(l, v.height - y),
+        ..range(v)
+    };
+    dots::move_left(g, mem, rows, x + 2 * c - width);
+    place(marked(p, rows), width - c, y)
 }
 
 // HT.
@@ -202,10 +224,7 @@ pub fn clear(g: Geometry, mem: &mut [u8], p: Spot) -> Spot
     ensures { λ r. ⌜ Does g (p .spans) (now (mem .entry)) r (now (mem .exit)) (clearOf (p .view)) ⌝ }
 {
     let v = p.view;
-    dots::clear(g, mem, v.left, v.top, v.width, v.height);
-    let before = p.spans;
-    Spot {
-        view: to(v, 0, 0),
-        spans: dots::mark(before, v.left, v.top, v.width, v.height),
-    }
+    let r = range(v);
+    dots::clear(g, mem, r);
+    place(marked(p, r), 0, 0)
 }

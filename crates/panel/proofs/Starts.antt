@@ -1,5 +1,5 @@
 -- What start and feed give, refused and not. Assumes nothing.
-use mathlib.Core.Path.{_≡_, sym, ap, ap₂, _∙_}
+use mathlib.Core.Path.{_≡_, ap, ap₂, _∙_}
 use mathlib.Core.Bool.{true, false}
 use mathlib.Core.List.{List}
 use Prim.Native.Nat.{ℕ}
@@ -11,11 +11,10 @@ use Rattle.paper.specs.declared.State.{State}
 use Rattle.paper.specs.Panel.{panel}
 use Rattle.paper.specs.Settings.{initialState, withSpans}
 use Rattle.paper.specs.Bounds.{accepted}
-use Rattle.paper.specs.Cells.{eraseStroke}
+use Rattle.paper.specs.Strokes.{markRect}
+use Rattle.paper.specs.Cells.{memoryRect}
 use Rattle.paper.specs.Calls.{isAccepted, answer, startRefusal, startCall, feedRefusal, run, fedNothing, feedCall}
 use Rattle.laws_memory.specs.Rectangles.{cleared}
-use Rattle.laws_memory.specs.Spans.{markRect}
-use Rattle.laws_memory.proofs.Spans.{marked-rect}
 use Rattle.panel.specs.Told.{started}
 
 -- a memory of the wrong length is handed back as it was, with the initial state
@@ -26,15 +25,14 @@ start-refused m s h e = rw (ne-eqb (length m) 1024 h, e)
 
 -- a memory of the right length is zeroed, and all of it is marked
 pub start-accepted : (m m′ : List ℕ) (t : State) (ps : List Span) → length m ≡ 1024 → t ≡ initialState panel
-    → ps ≡ markRect 0 0 512 2 (t .spans) → m′ ≡ cleared panel 0 0 512 2 m
+    → ps ≡ markRect (memoryRect panel) (t .spans) → m′ ≡ cleared panel (memoryRect panel) m
     → started (answer Accepted (withSpans t ps)) m′ ≡ startCall panel m
 unfolding startCall startRefusal isAccepted panel cleared
 start-accepted m m′ t ps l e k c =
     rw (eq-eqb (length m) 1024 l)
     (ap₂ (λ (s : State) (x : List ℕ). started (answer Accepted s) x)
     (ap₂ (λ (s : State) (qs : List Span). withSpans s qs) e
-    (k ∙ ap (λ (s : State). markRect 0 0 512 2 (s .spans)) e
-    ∙ sym (marked-rect (initialState panel .spans) (eraseStroke panel)))) c)
+    (k ∙ ap (λ (s : State). markRect (memoryRect panel) (s .spans)) e)) c)
 
 module _ (font : List ℕ) (s : State) (m piece : List ℕ) where
   -- 1

@@ -47,9 +47,8 @@ pub fn start(mem: &mut [u8]) -> Answer
             state: t,
         };
     }
-    dots::clear(g, mem, 0, 0, g.columns, g.rows);
     let none = t.spans;
-    let spans = dots::mark(none, 0, 0, g.columns, g.rows);
+    let spans = dots::erase(g, mem, none);
     let state = State { spans, ..t };
     Answer {
         refusal: Refusal::Accepted,

@@ -5,10 +5,11 @@ use mathlib.Core.List.{List}
 use lib.ListN.{getD}
 use lib.Dec.{leb, ltb, eqb}
 use Rattle.paper.specs.declared.Geometry.{Geometry}
+use Rattle.paper.specs.declared.Rect.{Rect}
 use Rattle.paper.specs.declared.Style.{Style}
 use Rattle.paper.specs.declared.View.{View}
 use Rattle.paper.specs.Panel.{address, dot, byteOf, glyphDot}
-use Rattle.paper.specs.Strokes.{Rule, draw, wrapBlank, scroll, clear, image, initialise, Stroke, among}
+use Rattle.paper.specs.Strokes.{Rule, draw, wrapBlank, scroll, clear, image, initialise, rectAt, Stroke, among}
 
 -- ---- dots
 
@@ -65,15 +66,28 @@ tooLarge v c l = ltb (v .width) c || ltb (v .height) l
 
 -- ---- strokes
 
+-- all of memory
+abbrev pub memoryRect : Geometry → Rect
+memoryRect g = rectAt 0 0 (g .columns) (g .rows)
+
+-- the range of a view
+abbrev pub rangeOf : View → Rect
+rangeOf v = rectAt (v .left) (v .top) (v .width) (v .height)
+
+-- the rows of the range from the cursor's on, l of them as far as it has them
+abbrev pub rowsOf : View → ℕ → Rect
+rowsOf v l = rectAt (v .left) (v .top + v .y) (v .width) (min l (v .height - v .y))
+
+-- the part of the cell at the cursor, c columns wide and l rows high, that lies in the range
+abbrev pub partOf : View → ℕ → ℕ → Rect
+partOf v c l = rectAt (v .left + v .x) (v .top + v .y) (min c (v .width - v .x)) (min l (v .height - v .y))
+
 -- a cell at the cursor; "Dots outside the range are dropped."
 abbrev pub cellStroke : Rule → Style → ℕ → Dots → View → Stroke
 cellStroke rule y c d v =
     record {
       rule = rule;
-      left = v .left + v .x;
-      top = v .top + v .y;
-      width = min c (v .width - v .x);
-      height = min (cellHeight y) (v .height - v .y);
+      rect = partOf v c (cellHeight y);
       byte = λ m j r b. penned y (λ i. enlargedDots y d j (8 * r + i)) b;
     }
 
@@ -90,10 +104,7 @@ abbrev pub upStroke : Geometry → View → ℕ → Stroke
 upStroke g v l =
     record {
       rule = scroll;
-      left = v .left;
-      top = v .top;
-      width = v .width;
-      height = v .height;
+      rect = rangeOf v;
       byte = λ m j r b. cond (ltb (r + l) (v .height)) (getD m (address g (v .left + j) (v .top + (r + l))) 0) 0;
     }
 
@@ -102,45 +113,23 @@ abbrev pub leftStroke : Geometry → View → ℕ → ℕ → Stroke
 leftStroke g v l n =
     record {
       rule = scroll;
-      left = v .left;
-      top = v .top + v .y;
-      width = v .width;
-      height = min l (v .height - v .y);
+      rect = rowsOf v l;
       byte = λ m j r b. cond (ltb (j + n) (v .width)) (getD m (address g (v .left + (j + n)) (v .top + v .y + r)) 0) 0;
     }
 
 -- "CLR zeroes the range"
 abbrev pub clearStroke : View → Stroke
-clearStroke v =
-    record {
-      rule = clear;
-      left = v .left;
-      top = v .top;
-      width = v .width;
-      height = v .height;
-      byte = λ m j r b. 0;
-    }
+clearStroke v = record { rule = clear; rect = rangeOf v; byte = λ m j r b. 0 }
 
 -- "Initialise zeroes the memory"
 abbrev pub eraseStroke : Geometry → Stroke
-eraseStroke g =
-    record {
-      rule = initialise;
-      left = 0;
-      top = 0;
-      width = g .columns;
-      height = g .rows;
-      byte = λ m j r b. 0;
-    }
+eraseStroke g = record { rule = initialise; rect = memoryRect g; byte = λ m j r b. 0 }
 
 -- an image's byte at its column and row, from the cursor: "Each byte passes reverse and mixing and is stored"
 abbrev pub imageStroke : Style → ℕ → ℕ → ℕ → View → Stroke
 imageStroke y column row byte v =
     record {
       rule = image;
-      left = v .left + (v .x + column);
-      top = v .top + (v .y + row);
-      width = 1;
-      height = 1;
+      rect = rectAt (v .left + (v .x + column)) (v .top + (v .y + row)) 1 1;
       byte = λ m j r b. penned y (dot byte) b;
     }

@@ -7,6 +7,7 @@ use mathlib.Core.List.{List, [], _∷_}
 use lib.ListN.{getD}
 use lib.Dec.{leb, ltb, eqb}
 use Rattle.paper.specs.declared.Geometry.{Geometry}
+use Rattle.paper.specs.declared.Rect.{Rect}
 use Rattle.paper.specs.declared.Span.{Span}
 use Rattle.paper.specs.Panel.{columnOf, rowOf, each}
 
@@ -15,13 +16,14 @@ use Rattle.paper.specs.Panel.{columnOf, rowOf, each}
 pub data Rule : Type 0 where
   draw wrapBlank scroll clear image initialise : Rule
 
+-- a rectangle by its parts
+abbrev pub rectAt : ℕ → ℕ → ℕ → ℕ → Rect
+rectAt left top width height = record { left = left; top = top; width = width; height = height }
+
 -- `byte m j r b`: what stands at the stroke's column j and row r afterwards, m the memory and b the byte there before
 pub record Stroke : Type 0 where
   pub rule : Rule
-  pub left : ℕ
-  pub top : ℕ
-  pub width : ℕ
-  pub height : ℕ
+  pub rect : Rect
   pub byte : List ℕ → ℕ → ℕ → ℕ → ℕ
 
 -- x is one of the n numbers from lo
@@ -29,19 +31,18 @@ abbrev pub among : ℕ → ℕ → ℕ → Bool
 among lo n x = leb lo x && ltb x (lo + n)
 
 -- address a lies in the rectangle
-abbrev pub inRect : Geometry → ℕ → ℕ → ℕ → ℕ → ℕ → Bool
-inRect g left top w h a = among left w (columnOf g a) && among top h (rowOf g a)
+abbrev pub inRect : Geometry → Rect → ℕ → Bool
+inRect g q a = among (q .left) (q .width) (columnOf g a) && among (q .top) (q .height) (rowOf g a)
 
 -- the rectangle's byte b at its column j and row r becomes f j r b; all else stays
-unfoldable pub rectMap : Geometry → ℕ → ℕ → ℕ → ℕ → (ℕ → ℕ → ℕ → ℕ) → List ℕ → List ℕ
-rectMap g left top w h f m =
-    each (λ a b. cond (inRect g left top w h a) (f (columnOf g a - left) (rowOf g a - top) b) b) m
+unfoldable pub rectMap : Geometry → Rect → (ℕ → ℕ → ℕ → ℕ) → List ℕ → List ℕ
+rectMap g q f m = each (λ a b. cond (inRect g q a) (f (columnOf g a - q .left) (rowOf g a - q .top) b) b) m
 
 abbrev pub holds : Geometry → Stroke → ℕ → Bool
-holds g s a = inRect g (s .left) (s .top) (s .width) (s .height) a
+holds g s a = inRect g (s .rect) a
 
 abbrev pub applied : Geometry → List ℕ → Stroke → List ℕ
-applied g m s = rectMap g (s .left) (s .top) (s .width) (s .height) (s .byte m) m
+applied g m s = rectMap g (s .rect) (s .byte m) m
 
 -- one stroke after the other
 abbrev pub applyAll : Geometry → List ℕ → List Stroke → List ℕ
@@ -68,16 +69,20 @@ spanHolds p x = leb (p .first) x && ltb x (p .end)
 unfoldable pub grown : Span → ℕ → ℕ → Span
 grown p first end = cond (isNothing p) (spanOf first end) (spanOf (min (p .first) first) (max (p .end) end))
 
--- "Written means stored by a rule, even with an equal value": row y's span grows by the columns of a stroke on that row
-unfoldable pub grownBy : Stroke → ℕ → Span → Span
-grownBy s y p = cond (ltb 0 (s .width) && among (s .top) (s .height) y) (grown p (s .left) (s .left + s .width)) p
+-- "Written means stored by a rule, even with an equal value": row y's span grows by a rectangle's columns on that row
+unfoldable pub grownBy : Rect → ℕ → Span → Span
+grownBy q y p = cond (ltb 0 (q .width) && among (q .top) (q .height) y) (grown p (q .left) (q .left + q .width)) p
 
-abbrev pub markFrom : Stroke → ℕ → List Span → List Span
-markFrom s y [] = []
-markFrom s y (p ∷ ps) = grownBy s y p ∷ markFrom s (suc y) ps
+abbrev pub markFrom : Rect → ℕ → List Span → List Span
+markFrom q y [] = []
+markFrom q y (p ∷ ps) = grownBy q y p ∷ markFrom q (suc y) ps
+
+-- each row's span grows by a rectangle
+abbrev pub markRect : Rect → List Span → List Span
+markRect q ps = markFrom q 0 ps
 
 abbrev pub marked : List Span → Stroke → List Span
-marked ps s = markFrom s 0 ps
+marked ps s = markRect (s .rect) ps
 
 abbrev pub markAll : List Span → List Stroke → List Span
 markAll ps [] = ps

@@ -61,6 +61,14 @@ pub struct View {
     pub mode: u8,
 }
 
+// A rectangle of the memory: its left column and its top row, how many columns it has and how many rows.
+pub struct Rect {
+    pub left: usize,
+    pub top: usize,
+    pub width: usize,
+    pub height: usize,
+}
+
 // A setting that one byte gives, named by the command that sets it.
 pub enum Key {
     // 1Bh 52h

@@ -6,9 +6,9 @@ use Prim.Native.Nat.{ℕ, suc, _+_, _<_, min, max}
 use native.Mathlib.Omega.{arith}
 use lib.Dec.{leb, ltb}
 use borrow.Author.Tests.{leb-true, ltb-true, ltb-false, lt-ltb, le-ltb, ne-eqb}
+use Rattle.paper.specs.declared.Rect.{Rect}
 use Rattle.paper.specs.declared.Span.{Span}
-use Rattle.paper.specs.Strokes.{spanOf, isNothing, among, grown}
-use Rattle.laws_memory.specs.Spans.{grownRect, markRectFrom, markRect}
+use Rattle.paper.specs.Strokes.{rectAt, spanOf, isNothing, among, grown, grownBy, markFrom, markRect}
 
 -- ---- one span
 
@@ -41,8 +41,8 @@ grown-swap p a b c d h k = go (isNothing p) refl where
       rw (ne-eqb (max (p .end) b) 0 (omega arith), ne-eqb (max (p .end) d) 0 (omega arith)) (span-by (omega arith) (omega arith))
 
 -- a rectangle beside another of the same rows
-rect-on : (l t n c h y : ℕ) (p : Span) → grownRect (l + n) t c h y (grownRect l t n h y p) ≡ grownRect l t (n + c) h y p
-unfolding grownRect
+rect-on : (l t n c h y : ℕ) (p : Span) → grownBy (rectAt (l + n) t c h) y (grownBy (rectAt l t n h) y p) ≡ grownBy (rectAt l t (n + c) h) y p
+unfolding grownBy
 rect-on l t n c h y p = go (ltb 0 n) refl (ltb 0 c) refl (among t h y) where
   go : (z : Bool) → ltb 0 n ≡ z → (q : Bool) → ltb 0 c ≡ q → (a : Bool)
       → cond (q && a) (grown (cond (z && a) (grown p l (l + n)) p) (l + n) (l + n + c)) (cond (z && a) (grown p l (l + n)) p)
@@ -68,27 +68,30 @@ rect-on l t n c h y p = go (ltb 0 n) refl (ltb 0 c) refl (among t h y) where
       rw (le-ltb 0 (n + c) (omega arith))
 
 -- two rectangles in either order
-rect-swap : (l t w h l′ t′ w′ h′ y : ℕ) (p : Span)
-    → grownRect l′ t′ w′ h′ y (grownRect l t w h y p) ≡ grownRect l t w h y (grownRect l′ t′ w′ h′ y p)
-unfolding grownRect
-rect-swap l t w h l′ t′ w′ h′ y p = go (ltb 0 w) refl (among t h y) (ltb 0 w′) refl (among t′ h′ y) where
-  go : (z : Bool) → ltb 0 w ≡ z → (a : Bool) → (z′ : Bool) → ltb 0 w′ ≡ z′ → (a′ : Bool)
-      → cond (z′ && a′) (grown (cond (z && a) (grown p l (l + w)) p) l′ (l′ + w′)) (cond (z && a) (grown p l (l + w)) p)
-      ≡ cond (z && a) (grown (cond (z′ && a′) (grown p l′ (l′ + w′)) p) l (l + w)) (cond (z′ && a′) (grown p l′ (l′ + w′)) p)
-  go true e true true f true =
-      let i = ltb-true 0 w e in
-      let j = ltb-true 0 w′ f in
-      grown-swap p l (l + w) l′ (l′ + w′) (omega arith) (omega arith)
-  go true e true true f false = refl
-  go true e true false f a′ = refl
-  go true e false true f a′ = refl
-  go true e false false f a′ = refl
-  go false e a true f a′ = refl
-  go false e a false f a′ = refl
+rect-swap : (r s : Rect) (y : ℕ) (p : Span) → grownBy s y (grownBy r y p) ≡ grownBy r y (grownBy s y p)
+unfolding grownBy
+rect-swap r s y p =
+    go (ltb 0 (r .width)) refl (among (r .top) (r .height) y) (ltb 0 (s .width)) refl (among (s .top) (s .height) y) where
+      by : Rect → Span → Span
+      by q p = grown p (q .left) (q .left + q .width)
+
+      go : (z : Bool) → ltb 0 (r .width) ≡ z → (a : Bool) → (z′ : Bool) → ltb 0 (s .width) ≡ z′ → (a′ : Bool)
+          → cond (z′ && a′) (by s (cond (z && a) (by r p) p)) (cond (z && a) (by r p) p)
+          ≡ cond (z && a) (by r (cond (z′ && a′) (by s p) p)) (cond (z′ && a′) (by s p) p)
+      go true e true true f true =
+          let i = ltb-true 0 (r .width) e in
+          let j = ltb-true 0 (s .width) f in
+          grown-swap p (r .left) (r .left + r .width) (s .left) (s .left + s .width) (omega arith) (omega arith)
+      go true e true true f false = refl
+      go true e true false f a′ = refl
+      go true e false true f a′ = refl
+      go true e false false f a′ = refl
+      go false e a true f a′ = refl
+      go false e a false f a′ = refl
 
 -- a rectangle without rows
-rect-flat : (l t w y : ℕ) (p : Span) → grownRect l t w 0 y p ≡ p
-unfolding grownRect
+rect-flat : (l t w y : ℕ) (p : Span) → grownBy (rectAt l t w 0) y p ≡ p
+unfolding grownBy
 rect-flat l t w y p = go (ltb 0 w) (leb t y) refl (ltb y (t + 0)) refl where
   go : (z a : Bool) → leb t y ≡ a → (b : Bool) → ltb y (t + 0) ≡ b → cond (z && (a && b)) (grown p l (l + w)) p ≡ p
   go false a e b f = refl
@@ -103,40 +106,35 @@ rect-flat l t w y p = go (ltb 0 w) (leb t y) refl (ltb y (t + 0)) refl where
 
 -- rectangles of the same numbers
 pub mark-at : {l l′ t t′ w w′ h h′ : ℕ} (ps : List Span) → l ≡ l′ → t ≡ t′ → w ≡ w′ → h ≡ h′
-    → markRect l t w h ps ≡ markRect l′ t′ w′ h′ ps
+    → markRect (rectAt l t w h) ps ≡ markRect (rectAt l′ t′ w′ h′) ps
 mark-at {l′ = l′} {t} {t′} {w} {w′} {h} ps a b c d =
-    ap (λ (k : ℕ). markRect k t w h ps) a ∙ ap₂ (λ (k n : ℕ). markRect l′ k n h ps) b c ∙ ap (λ (k : ℕ). markRect l′ t′ w′ k ps) d
+    ap (λ (k : ℕ). markRect (rectAt k t w h) ps) a ∙ ap₂ (λ (k n : ℕ). markRect (rectAt l′ k n h) ps) b c ∙ ap (λ (k : ℕ). markRect (rectAt l′ t′ w′ k) ps) d
 
 -- a rectangle without columns marks nothing
-pub mark-none : (l t h : ℕ) (ps : List Span) → markRect l t 0 h ps ≡ ps
-unfolding markRect grownRect
+pub mark-none : (l t h : ℕ) (ps : List Span) → markRect (rectAt l t 0 h) ps ≡ ps
+unfolding grownBy
 mark-none l t h ps = go 0 ps where
-  go : (y : ℕ) (ps : List Span) → markRectFrom l t 0 h y ps ≡ ps
+  go : (y : ℕ) (ps : List Span) → markFrom (rectAt l t 0 h) y ps ≡ ps
   go y [] = refl
   go y (p ∷ ps) = ap (λ (qs : List Span). p ∷ qs) (go (suc y) ps)
 
 -- and one without rows neither
-pub mark-flat : (l t w : ℕ) (ps : List Span) → markRect l t w 0 ps ≡ ps
-unfolding markRect
+pub mark-flat : (l t w : ℕ) (ps : List Span) → markRect (rectAt l t w 0) ps ≡ ps
 mark-flat l t w ps = go 0 ps where
-  go : (y : ℕ) (ps : List Span) → markRectFrom l t w 0 y ps ≡ ps
+  go : (y : ℕ) (ps : List Span) → markFrom (rectAt l t w 0) y ps ≡ ps
   go y [] = refl
   go y (p ∷ ps) = ap₂ (λ (q : Span) (qs : List Span). q ∷ qs) (rect-flat l t w y p) (go (suc y) ps)
 
 -- two beside each other are one
-pub mark-beside : (l t n c h : ℕ) (ps : List Span) → markRect (l + n) t c h (markRect l t n h ps) ≡ markRect l t (n + c) h ps
-unfolding markRect
+pub mark-beside : (l t n c h : ℕ) (ps : List Span) → markRect (rectAt (l + n) t c h) (markRect (rectAt l t n h) ps) ≡ markRect (rectAt l t (n + c) h) ps
 mark-beside l t n c h ps = go 0 ps where
-  go : (y : ℕ) (ps : List Span) → markRectFrom (l + n) t c h y (markRectFrom l t n h y ps) ≡ markRectFrom l t (n + c) h y ps
+  go : (y : ℕ) (ps : List Span) → markFrom (rectAt (l + n) t c h) y (markFrom (rectAt l t n h) y ps) ≡ markFrom (rectAt l t (n + c) h) y ps
   go y [] = refl
   go y (p ∷ ps) = ap₂ (λ (q : Span) (qs : List Span). q ∷ qs) (rect-on l t n c h y p) (go (suc y) ps)
 
 -- two in either order
-pub mark-swap : (l t w h l′ t′ w′ h′ : ℕ) (ps : List Span)
-    → markRect l′ t′ w′ h′ (markRect l t w h ps) ≡ markRect l t w h (markRect l′ t′ w′ h′ ps)
-unfolding markRect
-mark-swap l t w h l′ t′ w′ h′ ps = go 0 ps where
-  go : (y : ℕ) (ps : List Span)
-      → markRectFrom l′ t′ w′ h′ y (markRectFrom l t w h y ps) ≡ markRectFrom l t w h y (markRectFrom l′ t′ w′ h′ y ps)
+pub mark-swap : (r s : Rect) (ps : List Span) → markRect s (markRect r ps) ≡ markRect r (markRect s ps)
+mark-swap r s ps = go 0 ps where
+  go : (y : ℕ) (ps : List Span) → markFrom s y (markFrom r y ps) ≡ markFrom r y (markFrom s y ps)
   go y [] = refl
-  go y (p ∷ ps) = ap₂ (λ (q : Span) (qs : List Span). q ∷ qs) (rect-swap l t w h l′ t′ w′ h′ y p) (go (suc y) ps)
+  go y (p ∷ ps) = ap₂ (λ (q : Span) (qs : List Span). q ∷ qs) (rect-swap r s y p) (go (suc y) ps)

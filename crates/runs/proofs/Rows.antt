@@ -11,11 +11,8 @@ use Rattle.paper.specs.declared.Geometry.{Geometry}
 use Rattle.paper.specs.declared.Span.{Span}
 use Rattle.paper.specs.declared.Style.{Style}
 use Rattle.paper.specs.declared.View.{View}
-use Rattle.paper.specs.Strokes.{applyAll, markAll}
-use Rattle.paper.specs.Cells.{imageStroke}
+use Rattle.paper.specs.Strokes.{rectAt, applyAll, markRect, markAll}
 use Rattle.paper.specs.Carry.{imageStrokes}
-use Rattle.laws_memory.specs.Spans.{markRect}
-use Rattle.laws_memory.proofs.Spans.{marked-rect}
 use Rattle.laws_memory.proofs.Tests.{and-parts}
 use Rattle.cells.specs.Drawn.{imaged}
 use Rattle.runs.specs.Runs.{placeAfter, rowMark, bottomOf, marksTo}
@@ -48,9 +45,10 @@ module _ (v : View) where
   row-more : (bottom r a b : ℕ) (ps : List Span) → a ≤ b → rowMark v bottom r b (b + 1) (rowMark v bottom r a b ps) ≡ rowMark v bottom r a (b + 1) ps
   unfolding rowMark
   row-more bottom r a b ps h =
-      mark-at _ (omega arith) refl refl refl
-      ∙ mark-beside (v .left + min (v .x + a) (v .width)) _ (min (v .x + b) (v .width) - min (v .x + a) (v .width)) _ _ ps
-      ∙ mark-at ps refl refl (omega arith) refl
+      let left = v .left + min (v .x + a) (v .width) in
+      let n = min (v .x + b) (v .width) - min (v .x + a) (v .width) in
+      mark-at {l′ = left + n} (rowMark v bottom r a b ps) (omega arith) refl refl refl
+      ∙ mark-beside left _ n _ _ ps ∙ mark-at ps refl refl (omega arith) refl
 
   -- a row that the range or the image has not
   row-flat : (bottom r a b : ℕ) (ps : List Span) → bottom ≤ v .y + r → rowMark v bottom r a b ps ≡ ps
@@ -61,7 +59,7 @@ module _ (v : View) where
   row-swap : (bottom r a b r′ a′ b′ : ℕ) (ps : List Span)
       → rowMark v bottom r′ a′ b′ (rowMark v bottom r a b ps) ≡ rowMark v bottom r a b (rowMark v bottom r′ a′ b′ ps)
   unfolding rowMark
-  row-swap bottom r a b r′ a′ b′ ps = mark-swap _ _ _ _ _ _ _ _ ps
+  row-swap bottom r a b r′ a′ b′ ps = mark-swap _ _ ps
 
   module _ (y : Style) (height : ℕ) where
     -- a byte marks its column of its row, if it is in the range
@@ -70,12 +68,13 @@ module _ (v : View) where
     row-byte c r b ps h = go (ltb (v .x + c) (v .width)) refl (ltb (v .y + r) (v .height)) refl where
       go : (s : Bool) → ltb (v .x + c) (v .width) ≡ s → (t : Bool) → ltb (v .y + r) (v .height) ≡ t
           → markAll ps (imageStrokes v y c r b)
-          ≡ markRect (v .left + min (v .x + c) (v .width)) (v .top + min (v .y + r) (bottomOf v height))
-          (min (v .x + (c + 1)) (v .width) - min (v .x + c) (v .width)) (min (v .y + r + 1) (bottomOf v height) - min (v .y + r) (bottomOf v height)) ps
+          ≡ markRect (rectAt (v .left + min (v .x + c) (v .width)) (v .top + min (v .y + r) (bottomOf v height))
+          (min (v .x + (c + 1)) (v .width) - min (v .x + c) (v .width))
+          (min (v .y + r + 1) (bottomOf v height) - min (v .y + r) (bottomOf v height))) ps
       go true e true f =
           let i = ltb-true (v .x + c) (v .width) e in
           let j = ltb-true (v .y + r) (v .height) f in
-          rw (e, f) (marked-rect ps (imageStroke y c r b v) ∙ mark-at ps (omega arith) (omega arith) (omega arith) (omega arith))
+          rw (e, f) (mark-at ps (omega arith) (omega arith) (omega arith) (omega arith))
       go true e false f =
           let j = ltb-false (v .y + r) (v .height) f in
           rw (e, f) (sym (mark-at ps refl refl refl (omega arith) ∙ mark-flat _ _ _ ps))

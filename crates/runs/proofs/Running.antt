@@ -1,5 +1,5 @@
 -- Where the loops over characters have come to: what they hold at each turn, a turn more, and where they end. Assumes nothing.
-use mathlib.Core.Path.{_≡_, refl, sym, ap, _∙_}
+use mathlib.Core.Path.{_≡_, refl, sym, ap, ap₂, _∙_}
 use mathlib.Core.Bool.{true, false, false≢true, _&&_}
 use mathlib.Core.List.{List}
 use Prim.Native.Nat.{ℕ, _+_, _*_, _-_, _<_, _≤_}
@@ -8,7 +8,9 @@ use lib.ListN.{length, getD, drop}
 use lib.Dec.{leb}
 use borrow.Author.Tests.{leb-true, le-leb}
 use Rattle.paper.specs.declared.Geometry.{Geometry}
+use Rattle.paper.specs.declared.Span.{Span}
 use Rattle.paper.specs.declared.Style.{Style}
+use Rattle.paper.specs.Strokes.{rectAt, markRect}
 use Rattle.paper.specs.Cells.{cellWidth, cellHeight}
 use Rattle.paper.specs.Moves.{to, characterOf}
 use Rattle.laws_state.specs.Room.{InMemory, Room}
@@ -16,7 +18,6 @@ use Rattle.laws_state.specs.Runs.{Sheet, writtenOn, charactersOf, Within}
 use Rattle.laws_state.proofs.Moves.{character-kept}
 use Rattle.laws_state.proofs.Runs.{within-kept, within-room}
 use Rattle.laws_state.proofs.Taken.{characters-more, characters-stop, characters-end}
-use Rattle.laws_memory.specs.Spans.{markRect}
 use Rattle.laws_memory.proofs.Tests.{eq-cases, and-parts}
 use Rattle.moves.specs.declared.Spot.{Spot}
 use Rattle.moves.specs.Does.{Does, spot}
@@ -106,50 +107,65 @@ module _ (g : Geometry) (font : List ℕ) (w : ℕ) (y : Style) (p : Spot) (m pi
 
   -- ---- a line, marked once
 
-  -- the line so far: its cursor in column x, which is the spot's as long as nothing was drawn
-  pub record Lining (l : ℕ) (n : List ℕ) (x i : ℕ) : Type 0 where
-    pub went : Went g font w y p m piece from (drawnTo (penAt p l x) i) n
-    pub on : p .view .x ≤ x
-    pub begun : i ≡ from → x ≡ p .view .x
+  -- the column of memory where the line begins
+  abbrev start : ℕ
+  start = p .view .left + p .view .x
 
-  pub lining-begin : (l : ℕ) → InMemory g (p .view) → from < length piece → Lining l m (p .view .x) from
-  lining-begin l i h =
-      let none : markRect (p .view .left + p .view .x) (p .view .top + p .view .y) (p .view .x - p .view .x) l (p .spans) ≡ p .spans =
-      mark-at (p .spans) refl refl (omega arith) refl ∙ mark-none _ _ _ _ in
-      record {
-        went = rw none (went-begin i h);
-        on = omega arith;
-        begun = λ e. refl;
-      }
+  -- the line so far: drawn as far as column a, which is the spot's as long as nothing was drawn
+  pub record Lining (l : ℕ) (n : List ℕ) (a i : ℕ) : Type 0 where
+    pub went : Went g font w y p m piece from (drawnTo (penAt p l a) i) n
+    pub on : p .view .left + p .view .x ≤ a
+    pub begun : i ≡ from → a ≡ p .view .left + p .view .x
+
+  -- nothing drawn, nothing marked
+  pen-begin : (l : ℕ) → penAt p l start ≡ p
+  pen-begin l =
+      ap₂ (λ (x : ℕ) (ps : List Span). spot (to (p .view) x (p .view .y)) ps) (omega arith)
+      (mark-at (p .spans) refl refl (omega arith) refl ∙ mark-none start (p .view .top + p .view .y) l (p .spans))
+
+  pub lining-begin : (l : ℕ) → InMemory g (p .view) → from < length piece → Lining l m start from
+  lining-begin l i h = record { went = rw (pen-begin l) (went-begin i h); on = omega arith; begun = λ e. refl }
 
   -- what the test says
-  pub room-for : (b x c width : ℕ) → (leb 0x20 b && leb (x + 2 * c) width) ≡ true → (0x20 ≤ b) × (x + 2 * c ≤ width)
-  room-for b x c width t =
-      let f = and-parts (leb 0x20 b) (leb (x + 2 * c) width) t in
-      (leb-true 0x20 b (f .0), leb-true (x + 2 * c) width (f .1))
+  pub room-for : (b a c end : ℕ) → (leb 0x20 b && leb (a + 2 * c) end) ≡ true → (0x20 ≤ b) × (a + 2 * c ≤ end)
+  room-for b a c end t =
+      let f = and-parts (leb 0x20 b) (leb (a + 2 * c) end) t in
+      (leb-true 0x20 b (f .0), leb-true (a + 2 * c) end (f .1))
 
-  module _ (l : ℕ) (n : List ℕ) (x i : ℕ) (k : Lining l n x i) where
+  module _ (l : ℕ) (n : List ℕ) (a i : ℕ) (k : Lining l n a i) where
+    -- the cell at column a, marked after the line, is the line a cell longer
+    longer : markRect (rectAt (p .view .left + (a - p .view .left)) (p .view .top + p .view .y) (cellWidth w y) l) (penAt p l a .spans)
+        ≡ penAt p l (a + cellWidth w y) .spans
+    longer =
+        mark-at (penAt p l a .spans) (omega (arith, k .on)) refl refl refl
+        ∙ mark-beside start (p .view .top + p .view .y) (a - start) (cellWidth w y) l (p .spans)
+        ∙ mark-at (p .spans) refl refl (omega (arith, k .on)) refl
+
     -- a cell more
     pub lining-next : {n′ : List ℕ} → Room g (p .view) (cellWidth w y) (cellHeight y) → l ≡ cellHeight y → i < length piece
-        → 0x20 ≤ getD piece i 0 → x + 2 * cellWidth w y ≤ p .view .width → p .view .y + l ≤ p .view .height
-        → n′ ≡ drawn g font (getD piece i 0) w y (p .view .left + x) (p .view .top + p .view .y) (cellWidth w y) l n
-        → length n′ ≡ length n → Lining l n′ (x + cellWidth w y) (i + 1)
+        → 0x20 ≤ getD piece i 0 → a + 2 * cellWidth w y ≤ p .view .left + p .view .width → p .view .y + l ≤ p .view .height
+        → n′ ≡ drawn g font (getD piece i 0) w y (rectAt a (p .view .top + p .view .y) (cellWidth w y) l) n
+        → length n′ ≡ length n → Lining l n′ (a + cellWidth w y) (i + 1)
     lining-next room e h b across down d s =
         record {
           went =
-              went-next (penAt p l x) n i (k .went) room h b
-              (drawn-in-line g (penAt p l x .spans) n font w y (getD piece i 0) (to (p .view) x (p .view .y)) across (rw (← e) down) refl
-              (sym (mark-at (penAt p l x .spans) (omega (arith, k .on)) refl refl (sym e)
-              ∙ mark-beside (p .view .left + p .view .x) (p .view .top + p .view .y) (x - p .view .x) (cellWidth w y) l (p .spans)
-              ∙ mark-at (p .spans) refl refl (omega (arith, k .on)) refl)) (d ∙ rw e)) s;
+              went-next (penAt p l a) n i (k .went) room h b
+              (drawn-in-line g (penAt p l a .spans) n font w y (getD piece i 0) (to (p .view) (a - p .view .left) (p .view .y))
+              (omega (arith, k .on)) (rw (← e) down)
+              (ap (λ (x : ℕ). spot (to (p .view) x (p .view .y)) (penAt p l (a + cellWidth w y) .spans)) (omega (arith, k .on)))
+              (sym longer
+              ∙ ap (λ (h : ℕ). markRect (rectAt (p .view .left + (a - p .view .left)) (p .view .top + p .view .y) (cellWidth w y) h) (penAt p l a .spans)) e)
+              (d ∙ ap₂ (λ (x h : ℕ). drawn g font (getD piece i 0) w y (rectAt x (p .view .top + p .view .y) (cellWidth w y) h) n)
+              (omega (arith, k .on)) e)) s;
           on = omega (arith, k .on);
           begun = λ f. absurd (omega (arith, k .went .low));
         }
 
     -- where it ends it has begun
     pub lining-end : (c : ℕ) → 0x20 ≤ getD piece from 0 → p .view .x + 2 * c ≤ p .view .width
-        → (leb 0x20 (getD piece i 0) && leb (x + 2 * c) (p .view .width)) ≡ false → from < i
+        → (leb 0x20 (getD piece i 0) && leb (a + 2 * c) (p .view .left + p .view .width)) ≡ false → from < i
     lining-end c b h t =
         eq-cases from i
-        (λ e. absurd (false≢true (sym t ∙ rw (← e, k .begun (sym e), le-leb 0x20 (getD piece from 0) b, le-leb (p .view .x + 2 * c) (p .view .width) h))))
+        (λ e. absurd (false≢true (sym t
+        ∙ rw (← e, k .begun (sym e), le-leb 0x20 (getD piece from 0) b, le-leb (start + 2 * c) (p .view .left + p .view .width) (omega arith)))))
         (λ n. omega (arith, k .went .low))

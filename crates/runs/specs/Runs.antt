@@ -9,8 +9,8 @@ use Rattle.paper.specs.declared.Geometry.{Geometry}
 use Rattle.paper.specs.declared.Span.{Span}
 use Rattle.paper.specs.declared.Style.{Style}
 use Rattle.paper.specs.declared.View.{View}
+use Rattle.paper.specs.Strokes.{rectAt, markRect}
 use Rattle.paper.specs.Moves.{to}
-use Rattle.laws_memory.specs.Spans.{markRect}
 use Rattle.laws_state.specs.Runs.{Sheet, sheet, written, charactersOf, Within, image, stored, imageBytesOf}
 use Rattle.moves.specs.declared.Spot.{Spot}
 use Rattle.moves.specs.Does.{spot}
@@ -27,10 +27,11 @@ under p m = sheet (p .view) (p .spans) m
 abbrev pub drawnTo : Spot → ℕ → Drawn
 drawnTo p at = record { spot = p; at = at }
 
--- a spot whose line was drawn as far as column x, l rows high: what was drawn is marked as one rectangle
+-- a spot whose line was drawn as far as the memory's column `end`, l rows high: what was drawn is marked as one rectangle
 abbrev pub penAt : Spot → ℕ → ℕ → Spot
-penAt p l x =
-    spot (to (p .view) x (p .view .y)) (markRect (p .view .left + p .view .x) (p .view .top + p .view .y) (x - p .view .x) l (p .spans))
+penAt p l end =
+    spot (to (p .view) (end - p .view .left) (p .view .y))
+    (markRect (rectAt (p .view .left + p .view .x) (p .view .top + p .view .y) (end - (p .view .left + p .view .x)) l) (p .spans))
 
 -- some characters drawn, from one place of a piece to another: what is left gives what the whole gives
 pub record Went (g : Geometry) (font : List ℕ) (w : ℕ) (y : Style) (p : Spot) (m piece : List ℕ) (from : ℕ) (r : Drawn) (m′ : List ℕ) : Type 0 where
@@ -57,8 +58,8 @@ placeAfter height column row =
 -- the columns a to b of an image's row r, as far as they lie in the range above its row `bottom`, are marked
 unfoldable pub rowMark : View → ℕ → ℕ → ℕ → ℕ → List Span → List Span
 rowMark v bottom r a b ps =
-    markRect (v .left + min (v .x + a) (v .width)) (v .top + min (v .y + r) bottom) (min (v .x + b) (v .width) - min (v .x + a) (v .width))
-    (min (v .y + r + 1) bottom - min (v .y + r) bottom) ps
+    markRect (rectAt (v .left + min (v .x + a) (v .width)) (v .top + min (v .y + r) bottom)
+    (min (v .x + b) (v .width) - min (v .x + a) (v .width)) (min (v .y + r + 1) bottom - min (v .y + r) bottom)) ps
 
 -- the rows of an image that are in the range end here
 abbrev pub bottomOf : View → ℕ → ℕ

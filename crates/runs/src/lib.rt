@@ -2,8 +2,10 @@
 // It may use text for a character that wraps, cells for what is drawn, moves and dots for the cursor and the spans. It knows no
 // state, so that the compiler need not lay one down for each byte, and what a run has written is marked once.
 // Each contract says that the run is the fold of its single bytes.
+use cells::Cell;
 use moves::Spot;
 use paper::Geometry;
+use paper::Rect;
 use paper::Span;
 use paper::Style;
 use paper::View;
@@ -16,6 +18,7 @@ ghost use Rattle.paper.specs.Moves.{characterOf};
 ghost use Rattle.paper.specs.Carry.{imageStrokes};
 ghost use Rattle.laws_memory.specs.Rectangles.{Fits};
 ghost use Rattle.laws_state.specs.Room.{Usable, InMemory, Room};
+ghost use Rattle.cells.specs.Cell.{cellOf};
 ghost use Rattle.moves.specs.Does.{Does};
 ghost use Rattle.text.specs.Inked.{Inked};
 ghost use Rattle.runs.specs.Runs.{Went, Ran, penAt, drawnTo, placeAfter, rowMark, filledTo, Stocked};
@@ -28,109 +31,93 @@ pub struct Drawn {
     pub at: usize,
 }
 
-// Where a line ended, its cursor in column x: all that was drawn since the spot's column is marked at once.
-fn drawn_to(p: Spot, l: usize, x: usize, at: usize) -> Drawn
-    requires { ⌜ (p .view .x ≤ x) × (p .view .left + x < 65536) × (p .view .top + (p .view .y + l) < 65536) ⌝ }
-    ensures { λ r. ⌜ r ≡ drawnTo (penAt p l x) at ⌝ }
+// Where a line ended, drawn as far as the memory's column `end`: all since the spot's column, l rows high, is marked at once.
+fn drawn_to(p: Spot, l: usize, end: usize, at: usize) -> Drawn
+    requires { ⌜ (p .view .left + p .view .x ≤ end) × (end < 65536) × (p .view .top + (p .view .y + l) < 65536) ⌝ }
+    ensures { λ r. ⌜ r ≡ drawnTo (penAt p l end) at ⌝ }
 {
     let v = p.view;
-    let before = p.spans;
-    let spans = dots::mark(before, v.left + v.x, v.top + v.y, x - v.x, l);
-    let view = moves::to(v, x, v.y);
-    let spot = Spot { view, spans };
+    let left = v.left + v.x;
+    let line = Rect {
+        left,
+        top: v.top + v.y,
+        width: end - left,
+        height: l,
+    };
+    let spot = moves::place(moves::marked(p, line), end - v.left, v.y);
     Drawn { spot, at }
 }
 
-// The characters that stand in the cursor's line with room for another after each; its cells are c columns wide and l rows high.
+// The characters that stand in the cursor's line with room for another after each.
 fn line(
     g: Geometry,
     mem: &mut [u8],
     font: &[u8],
     p: Spot,
-    w: u8,
-    style: Style,
-    c: usize,
-    l: usize,
+    cell: Cell,
     piece: &[u8],
     from: usize,
 ) -> Drawn
-    requires { ⌜ Usable g × (Room g (p .view) (cellWidth w style) (cellHeight style) × (Inked (now font) style 0x20 × Fits g (now mem))) ⌝ }
-    requires { ⌜ (c ≡ cellWidth w style) × (l ≡ cellHeight style) × (from < length (now piece)) × (0x20 ≤ getD (now piece) from 0) ⌝ }
-    requires { ⌜ (p .view .x + 2 * c ≤ p .view .width) × (p .view .y + l ≤ p .view .height) ⌝ }
-    ensures { λ r. ⌜ (from < r .at) × Went g (now (font .entry)) w style p (now (mem .entry)) (now (piece .entry)) from r (now (mem .exit)) ⌝ }
+    requires { ⌜ Usable g × (Room g (p .view) (cell .columns) (cell .rows) × (Inked (now font) cell 0x20 × Fits g (now mem))) ⌝ }
+    requires { ⌜ (from < length (now piece)) × (0x20 ≤ getD (now piece) from 0) ⌝ }
+    requires { ⌜ (p .view .x + 2 * cell .columns ≤ p .view .width) × (p .view .y + cell .rows ≤ p .view .height) ⌝ }
+    ensures { λ r. ⌜ (from < r .at) × Went g (now (font .entry)) (cell .blanks) (cell .style) p (now (mem .entry))
+        (now (piece .entry)) from r (now (mem .exit)) ⌝ }
 {
     let v = p.view;
-    let left = v.left;
-    let top = v.top + v.y;
-    let width = v.width;
-    let mut x = v.x;
+    let end = v.left + v.width;
+    let style = cell.style;
+    let c = cell.columns;
+    let mut r = Rect {
+        left: v.left + v.x,
+        top: v.top + v.y,
+        width: c,
+        height: cell.rows,
+    };
     let mut i = from;
     while i < piece.len() {
         let b = piece[i];
-        if (0x20 <= b) & (x + 2 * c <= width) {
-            cells::draw(g, mem, font, b, w, style, left + x, top, c, l);
-            x += c;
+        if (0x20 <= b) & (r.left + 2 * c <= end) {
+            cells::draw(g, mem, font, b, cell.blanks, style, r);
+            r.left += c;
             i += 1;
         } else {
-            return drawn_to(p, l, x, i);
+            return drawn_to(p, r.height, r.left, i);
         }
     }
-    drawn_to(p, l, x, i)
+    drawn_to(p, r.height, r.left, i)
 }
 
 // A character in MD3's last cell: drawn, and the line pushed left. It is the mode's way with each character of a full line.
-fn push(
-    g: Geometry,
-    mem: &mut [u8],
-    font: &[u8],
-    p: Spot,
-    w: u8,
-    style: Style,
-    c: usize,
-    l: usize,
-    code: u8,
-) -> Spot
-    requires { ⌜ Usable g × (Room g (p .view) (cellWidth w style) (cellHeight style) × (Inked (now font) style code × Fits g (now mem))) ⌝ }
-    requires { ⌜ (c ≡ cellWidth w style) × (l ≡ cellHeight style) × (p .view .mode ≡ 3) ⌝ }
-    requires { ⌜ (p .view .x + c ≤ p .view .width) × (p .view .width < p .view .x + 2 * c) × (p .view .y + l ≤ p .view .height) ⌝ }
-    ensures { λ r. ⌜ Does g (p .spans) (now (mem .entry)) r (now (mem .exit)) (characterOf g (now (font .entry)) w style code (p .view)) ⌝ }
+fn push(g: Geometry, mem: &mut [u8], font: &[u8], p: Spot, cell: Cell, code: u8) -> Spot
+    requires { ⌜ Usable g × (Room g (p .view) (cell .columns) (cell .rows) × (Inked (now font) cell code × Fits g (now mem))) ⌝ }
+    requires { ⌜ (p .view .mode ≡ 3) × (p .view .width < p .view .x + 2 * cell .columns) × (p .view .x + cell .columns ≤ p .view .width) ⌝ }
+    ensures { λ r. ⌜ Does g (p .spans) (now (mem .entry)) r (now (mem .exit))
+        (characterOf g (now (font .entry)) (cell .blanks) (cell .style) code (p .view)) ⌝ }
 {
     let v = p.view;
-    let left = v.left + v.x;
-    let top = v.top + v.y;
-    cells::draw(g, mem, font, code, w, style, left, top, c, l);
-    let before = p.spans;
-    let spans = dots::mark(before, left, top, c, l);
-    moves::push_left(g, mem, Spot { view: v, spans }, c, l)
+    let style = cell.style;
+    let r = text::inside(v, cell.columns, cell.rows);
+    cells::draw(g, mem, font, code, cell.blanks, style, r);
+    let q = moves::marked(p, r);
+    moves::push_left(g, mem, q, cell.columns, cell.rows)
 }
 
 // One character where the cursor's line has no room for another after it.
-fn last(
-    g: Geometry,
-    mem: &mut [u8],
-    font: &[u8],
-    p: Spot,
-    w: u8,
-    style: Style,
-    c: usize,
-    l: usize,
-    code: u8,
-) -> Spot
-    requires { ⌜ Usable g × (Room g (p .view) (cellWidth w style) (cellHeight style) × (Inked (now font) style code × Fits g (now mem))) ⌝ }
-    requires { ⌜ (c ≡ cellWidth w style) × (l ≡ cellHeight style) ⌝ }
-    ensures { λ r. ⌜ Does g (p .spans) (now (mem .entry)) r (now (mem .exit)) (characterOf g (now (font .entry)) w style code (p .view)) ⌝ }
+fn last(g: Geometry, mem: &mut [u8], font: &[u8], p: Spot, cell: Cell, code: u8) -> Spot
+    requires { ⌜ Usable g × (Room g (p .view) (cell .columns) (cell .rows) × (Inked (now font) cell code × Fits g (now mem))) ⌝ }
+    ensures { λ r. ⌜ Does g (p .spans) (now (mem .entry)) r (now (mem .exit))
+        (characterOf g (now (font .entry)) (cell .blanks) (cell .style) code (p .view)) ⌝ }
 {
     let v = p.view;
     let x = v.x;
-    let y = v.y;
     let width = v.width;
-    let height = v.height;
     let mode = v.mode;
-    let whole = (x + c <= width) & (y + l <= height);
-    if (mode == 3) & ((width < x + 2 * c) & whole) {
-        return push(g, mem, font, p, w, style, c, l, code);
+    let c = cell.columns;
+    if (mode == 3) & ((width < x + 2 * c) & (x + c <= width)) {
+        return push(g, mem, font, p, cell, code);
     }
-    text::character(g, mem, font, p, w, style, code)
+    text::character(g, mem, font, p, cell, code)
 }
 
 // The characters of a line; where the cursor's has no room for another after it, the one that wraps.
@@ -139,26 +126,24 @@ fn stretch(
     mem: &mut [u8],
     font: &[u8],
     p: Spot,
-    w: u8,
-    style: Style,
-    c: usize,
-    l: usize,
+    cell: Cell,
     piece: &[u8],
     from: usize,
 ) -> Drawn
-    requires { ⌜ Usable g × (Room g (p .view) (cellWidth w style) (cellHeight style) × (Inked (now font) style 0x20 × Fits g (now mem))) ⌝ }
-    requires { ⌜ (c ≡ cellWidth w style) × (l ≡ cellHeight style) × (from < length (now piece)) × (0x20 ≤ getD (now piece) from 0) × (from + 1 < 2 ^ 64) ⌝ }
-    ensures { λ r. ⌜ (from < r .at) × Went g (now (font .entry)) w style p (now (mem .entry)) (now (piece .entry)) from r (now (mem .exit)) ⌝ }
+    requires { ⌜ Usable g × (Room g (p .view) (cell .columns) (cell .rows) × (Inked (now font) cell 0x20 × Fits g (now mem))) ⌝ }
+    requires { ⌜ (from < length (now piece)) × (0x20 ≤ getD (now piece) from 0) × (from + 1 < 2 ^ 64) ⌝ }
+    ensures { λ r. ⌜ (from < r .at) × Went g (now (font .entry)) (cell .blanks) (cell .style) p (now (mem .entry))
+        (now (piece .entry)) from r (now (mem .exit)) ⌝ }
 {
     let v = p.view;
     let x = v.x;
     let y = v.y;
     let width = v.width;
     let height = v.height;
-    if (x + 2 * c <= width) & (y + l <= height) {
-        return line(g, mem, font, p, w, style, c, l, piece, from);
+    if (x + 2 * cell.columns <= width) & (y + cell.rows <= height) {
+        return line(g, mem, font, p, cell, piece, from);
     }
-    let spot = last(g, mem, font, p, w, style, c, l, piece[from]);
+    let spot = last(g, mem, font, p, cell, piece[from]);
     Drawn { spot, at: from + 1 }
 }
 
@@ -173,12 +158,11 @@ pub fn run(
     piece: &[u8],
     from: usize,
 ) -> Drawn
-    requires { ⌜ Usable g × (Room g (p .view) (cellWidth w style) (cellHeight style) × (Inked (now font) style 0x20 × Fits g (now mem))) ⌝ }
+    requires { ⌜ Usable g × (Room g (p .view) (cellWidth w style) (cellHeight style) × (Inked (now font) (cellOf w style) 0x20 × Fits g (now mem))) ⌝ }
     requires { ⌜ (from < length (now piece)) × (0x20 ≤ getD (now piece) from 0) ⌝ }
     ensures { λ r. ⌜ Ran g (now (font .entry)) w style p (now (mem .entry)) (now (piece .entry)) from r (now (mem .exit)) ⌝ }
 {
-    let c = cells::cell_width(w, style);
-    let l = style.down as usize;
+    let cell = cells::cell_of(w, style);
     let mut q = p;
     let mut i = from;
     while i < piece.len() {
@@ -186,7 +170,7 @@ pub fn run(
         if b < 0x20 {
             return Drawn { spot: q, at: i };
         }
-        let r = stretch(g, mem, font, q, w, style, c, l, piece, i);
+        let r = stretch(g, mem, font, q, cell, piece, i);
         q = r.spot;
         i = r.at;
     }
@@ -247,7 +231,15 @@ fn mark_row(
     let right = dots::least(v.x + to, v.width);
     let top = dots::least(v.y + row, bottom);
     let end = dots::least(v.y + row + 1, bottom);
-    dots::mark(spans, v.left + left, v.top + top, right - left, end - top)
+    dots::mark(
+        spans,
+        Rect {
+            left: v.left + left,
+            top: v.top + top,
+            width: right - left,
+            height: end - top,
+        },
+    )
 }
 
 // Where a run of image bytes ended: the spans, the place of the image's next byte, and the place in the piece. The image is whole if

@@ -1,2 +1,1 @@
 pub mod Inked
-pub mod Part

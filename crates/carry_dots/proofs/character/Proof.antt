@@ -35,28 +35,33 @@ returns c = let start = c .before .before .before .before .before .before .befor
     (tested (start .args .s) (start .args .g) _ _ _ _ true (c .before .before .before .before .before .spot-of .ensures) (c .before .before .is-too-large .ensures) (c .before .if1 .taken)))
 
 character-requires : tie.Need-character-requires
-character-requires c κs = let start = c .before .before .before .before .before .before .before .before in
-    let r = start .pre .0 in (
-      r .usable,
-      (
-        rw (c .before .before .before .before .before .spot-of .ensures)
-            (view-room (start .args .g) (r .usable) (start .args .s) (r .state-ok) (tested (start .args .s) (start .args .g) _ _ _ _ false (c .before .before .before .before .before .spot-of .ensures) (c .before .before .is-too-large .ensures) (c .before .if1 .left))),
-        (
-          inks (start .args .font .now) (start .args .s .settings) (start .args .code) (start .pre .1 .0)
-              (parts (start .args .g) (start .args .s) (r .state-ok) .settings) (start .pre .1 .1),
-          r .fits,
-        ),
-      ),
-    )
+character-requires c κs =
+    let sized = c .before in
+    let tested-if = sized .before in
+    let penned = tested-if .before .before .before .before in
+    let start = penned .before .before .before in
+    let r = start .pre .0 in
+    let small = tested (start .args .s) (start .args .g) _ _ _ _ false (penned .spot-of .ensures) (tested-if .before .is-too-large .ensures) (tested-if .if1 .left) in
+    let inked = inks (start .args .font .now) (start .args .s .settings) (start .args .code) (start .pre .1 .0)
+    (parts (start .args .g) (start .args .s) (r .state-ok) .settings) (start .pre .1 .1) in
+    rw (sized .cell-of .ensures)
+    (r .usable, (rw (penned .spot-of .ensures) (view-room (start .args .g) (r .usable) (start .args .s) (r .state-ok) small), (inked, r .fits)))
 
 settle-requires : tie.Need-settle-requires
-settle-requires c κs = let start = c .before .before .before .before .before .before .before .before .before .before .before in
+settle-requires c κs =
+    let drawing = c .before .before in
+    let sized = drawing .before .before in
+    let tested-if = sized .before in
+    let penned = tested-if .before .before .before .before in
+    let start = penned .before .before .before in
+    let a = start .args in
     let r = start .pre .0 in
-    let v = start .args .s .settings in
-    settles (start .args .g) (start .args .s) (start .args .mem .now) (characterOf (start .args .g) (start .args .font .now) (v .width) (v .style) (start .args .code) (viewOf (start .args .g) (start .args .s))) (c .before .before .character .result .view) r
-    (character-kept (start .args .g) (start .args .font .now) (v .width) (v .style) (start .args .code) (viewOf (start .args .g) (start .args .s))
-    (view-room (start .args .g) (r .usable) (start .args .s) (r .state-ok) (tested (start .args .s) (start .args .g) _ _ _ _ false (c .before .before .before .before .before .before .before .before .spot-of .ensures) (c .before .before .before .before .before .is-too-large .ensures) (c .before .before .before .before .if1 .left))))
-    ((rw (c .before .before .before .before .before .before .before .before .spot-of .ensures) at (c .before .before .character .ensures)) .view)
+    let v = a .s .settings in
+    let view = viewOf (a .g) (a .s) in
+    let small = tested (a .s) (a .g) _ _ _ _ false (penned .spot-of .ensures) (tested-if .before .is-too-large .ensures) (tested-if .if1 .left) in
+    settles (a .g) (a .s) (a .mem .now) (characterOf (a .g) (a .font .now) (v .width) (v .style) (a .code) view) (drawing .character .result .view) r
+    (character-kept (a .g) (a .font .now) (v .width) (v .style) (a .code) view (view-room (a .g) (r .usable) (a .s) (r .state-ok) small))
+    ((rw (sized .cell-of .ensures, penned .spot-of .ensures) at (drawing .character .ensures)) .view)
 
 ends-requires-2 : tie.Need-ends-requires-2
 ends-requires-2 c κs = search needs
@@ -66,13 +71,20 @@ same-length c = search needs
 
 returns-2 : tie.Need-returns-2
 unfolding asks carriedOut
-returns-2 c = let start = c .before .before .before .before .before .before .before .before .before .before .before .before .before in
-    let v = start .args .s .settings in
-    does-move (start .args .s) (characterOf (start .args .g) (start .args .font .now) (v .width) (v .style) (start .args .code) (viewOf (start .args .g) (start .args .s)))
-    (rw (c .before .before .before .before .before .before .before .before .before .before .spot-of .ensures) at (c .before .before .before .before .character .ensures))
+returns-2 c =
+    let drawing = c .before .before .before .before in
+    let sized = drawing .before .before in
+    let tested-if = sized .before in
+    let penned = tested-if .before .before .before .before in
+    let start = penned .before .before .before in
+    let a = start .args in
+    let v = a .s .settings in
+    let small = tested (a .s) (a .g) _ _ _ _ false (penned .spot-of .ensures) (tested-if .before .is-too-large .ensures) (tested-if .if1 .left) in
+    does-move (a .s) (characterOf (a .g) (a .font .now) (v .width) (v .style) (a .code) (viewOf (a .g) (a .s)))
+    (rw (sized .cell-of .ensures, penned .spot-of .ensures) at (drawing .character .ensures))
     (ends-at (c .ends2 .ensures) (c .before .settle .ensures))
-    (is-10 (start .args .g) (start .args .font .now) (start .args .s) (Character (start .args .code))
-    (record { carried = refl; owner = refl; domain = refl; defined = refl; room = tested (start .args .s) (start .args .g) _ _ _ _ false (c .before .before .before .before .before .before .before .before .before .before .spot-of .ensures) (c .before .before .before .before .before .before .before .is-too-large .ensures) (c .before .before .before .before .before .before .if1 .left) }))
+    (is-10 (a .g) (a .font .now) (a .s) (Character (a .code))
+    (record { carried = refl; owner = refl; domain = refl; defined = refl; room = small }))
 
 pub character-spec : {M : Type 1} → statement M
 character-spec =
@@ -82,6 +94,7 @@ character-spec =
     is-too-large-requires
     ends-requires
     returns
+    (λ c κs. search needs)
     character-requires
     settle-requires
     ends-requires-2

@@ -17,11 +17,8 @@ returns c font = let start = c .before .before .before in
     does-answer (c .ends .ensures)
     (is-15 (start .args .g) font (start .args .s) Initialise refl (sym (start .pre .1) ∙ c .before .if1 .taken))
 
-clear-requires : tie.Need-clear-requires
-clear-requires c κs = search needs
-
-mark-requires : tie.Need-mark-requires
-mark-requires c κs = search needs
+erase-requires : tie.Need-erase-requires
+erase-requires c κs = search needs
 
 initial-state-requires : tie.Need-initial-state-requires
 initial-state-requires c κs = search needs
@@ -34,10 +31,14 @@ same-length c = search needs
 
 returns-2 : tie.Need-returns-2
 unfolding asks carriedOut
-returns-2 c font = let start = c .before .before .before .before .before .before .before .before .before .before .before .before .before in
-    does-erase (start .args .s) (c .before .before .before .before .before .before .before .before .before .clear .ensures) (c .before .before .before .before .before .mark .ensures) (c .before .before .before .before .initial-state .ensures) (c .ends2 .ensures)
+returns-2 c font =
+    let made = c .before .before .before .before in
+    let erasing = made .before .before .before in
+    let tested-if = erasing .before .before .before in
+    let start = tested-if .before .before in
+    does-erase (start .args .s) (erasing .erase .ensures .0) (erasing .erase .ensures .1) (made .initial-state .ensures) (c .ends2 .ensures)
     (is-10 (start .args .g) font (start .args .s) Initialise
-    (record { carried = refl; owner = sym (start .pre .1) ∙ c .before .before .before .before .before .before .before .before .before .before .before .if1 .left; domain = refl; defined = refl; room = refl }))
+    (record { carried = refl; owner = sym (start .pre .1) ∙ tested-if .if1 .left; domain = refl; defined = refl; room = refl }))
 
 pub initialise-spec : {M : Type 1} → statement M
 initialise-spec =
@@ -45,8 +46,7 @@ initialise-spec =
     (tie.spec
     ends-requires
     returns
-    clear-requires
-    mark-requires
+    erase-requires
     initial-state-requires
     ends-requires-2
     same-length

@@ -5,7 +5,7 @@ use borrow.Author.Needs.{needs}
 use native.Mathlib.Omega.{arith}
 use lib.Dec.{eqb}
 use lib.ListN.{length}
-use Rattle.paper.specs.Strokes.{rectMap}
+use Rattle.paper.specs.Strokes.{rectAt, rectMap}
 use Rattle.paper.specs.Cells.{allOff}
 use Rattle.laws_bytes.proofs.Drawn.{blank-byte}
 use Rattle.laws_memory.proofs.Rects.{rect-none}
@@ -15,19 +15,19 @@ use Rattle.cells.proofs.blank.Statement.{statement}
 use Rattle.cells.proofs.blank.Tie as tie
 
 abbrev Inv-loop : tie.InvT-loop
-Inv-loop g mem₀ style left top width height v t j₀ mem j =
-    (j ≤ width) × (length mem ≡ length mem₀) × (mem ≡ rectMap g left top j height (inked style (λ j r. 0)) mem₀)
+Inv-loop g mem₀ style r v t j₀ width mem j =
+    (j ≤ width) × (length mem ≡ length mem₀) × (mem ≡ rectMap g (rectAt (r .left) (r .top) j (r .height)) (inked style (λ j r. 0)) mem₀)
 
 abbrev μ-loop : tie.MeasureT-loop
-μ-loop g mem₀ style left top width height v t j₀ mem j = width - j
+μ-loop g mem₀ style r v t j₀ width mem j = width - j
 
 loop-holds : tie.Need-loop-holds Inv-loop μ-loop
-loop-holds c = (omega arith, refl, rect-none _ _ _ _ _ _ _ (λ a i. omega arith))
+loop-holds c = (omega arith, refl, rect-none _ _ _ _ (λ a i. omega arith))
 
 loop-again : tie.Need-loop-again Inv-loop μ-loop
 loop-again c =
-    let head = c .before .before .before .before .before .loop in
-    let off = c .before .before .before .before .before .before .reversed in (
+    let head = c .before .before .before .before .before .before .loop in
+    let off = c .before .before .before .before .before .before .before .reversed in (
       omega arith,
       omega (arith, c .before .before .mix-column .kept .1 .0),
       cell-turn _ _ (λ j r. 0) _ _ _ _ _ _ _ _ (head .inv .2) (λ r h. either (eqb r 0) (off .result) ∙ off .ensures)

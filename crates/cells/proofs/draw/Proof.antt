@@ -7,15 +7,15 @@ use Rattle.cells.proofs.draw.Tie as tie
 
 stamp-requires : tie.Need-stamp-requires
 stamp-requires c κs =
-    let a = c .before .before .before .before .before .before .args in
-    let plain = plain-facts (a .style) (a .height) (a .width) (a .w + 6) (c .before .if1 .taken) in
+    let a = c .before .before .before .before .before .before .before .before .args in
+    let plain = plain-facts (a .style) (a .r .height) (a .r .width) (a .w + 6) (c .before .if1 .taken) in
     search needs
 
 returns : tie.Need-returns
 returns c =
     let test = c .before .before .before .before in
-    let a = test .before .before .before .before .before .args in
-    let plain = plain-facts (a .style) (a .height) (a .width) (a .w + 6) (test .if1 .taken) in
+    let a = test .before .before .before .before .before .before .before .args in
+    let plain = plain-facts (a .style) (a .r .height) (a .r .width) (a .w + 6) (test .if1 .taken) in
     rw (plain .2, plain .3) (c .before .before .stamp .ensures)
 
 pub draw-spec : {M : Type 1} → statement M

@@ -1,13 +1,13 @@
 -- `cells::mix` meets its contract: a byte made of the one that stood there, stored. Assumes nothing.
 use borrow.Author.Needs.{needs}
+use native.Mathlib.Omega.{arith}
 use Rattle.cells.proofs.Columns.{mixed-by}
 use Rattle.cells.proofs.mix.Statement.{statement}
 use Rattle.cells.proofs.mix.Tie as tie
 
 returns : tie.Need-returns
 returns c =
-    mixed-by _ _ _ _ _ _ _ _ _ (c .before .before .before .before .before .before .at .ensures .0)
-    (c .before .before .before .before .mixed .ensures) (c .before .before .put .ensures)
+    mixed-by _ _ _ _ _ _ _ _ (omega arith) (omega arith) (c .before .before .at .ensures .0) (c .mixed .ensures)
 
 pub mix-spec : {M : Type 1} → statement M
 mix-spec =
@@ -16,6 +16,6 @@ mix-spec =
     (λ c κs. search needs)
     (λ c. search needs)
     (λ c κs. search needs)
-    (λ c κs. search needs)
+    (λ c. search needs)
     (λ c. search needs)
     returns)

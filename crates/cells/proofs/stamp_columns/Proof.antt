@@ -19,7 +19,7 @@ abbrev μ-loop : tie.MeasureT-loop
 
 loop-holds : tie.Need-loop-holds Inv-loop μ-loop
 unfolding stamped
-loop-holds c = (omega arith, refl, rect-none _ _ _ _ _ _ _ (λ a i. omega arith))
+loop-holds c = (omega arith, refl, rect-none _ _ _ _ (λ a i. omega arith))
 
 loop-again : tie.Need-loop-again Inv-loop μ-loop
 loop-again c =

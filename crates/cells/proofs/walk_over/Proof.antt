@@ -5,7 +5,7 @@ use Prim.Native.Nat.{_≤_, _-_}
 use borrow.Author.Needs.{needs}
 use native.Mathlib.Omega.{arith}
 use lib.ListN.{length}
-use Rattle.paper.specs.Strokes.{rectMap}
+use Rattle.paper.specs.Strokes.{rectAt, rectMap}
 use Rattle.paper.specs.Cells.{cellDot}
 use Rattle.laws_bytes.specs.Bytes.{cellByte}
 use Rattle.laws_bytes.proofs.Drawn.{cell-byte}
@@ -17,26 +17,27 @@ use Rattle.cells.proofs.walk_over.Statement.{statement}
 use Rattle.cells.proofs.walk_over.Tie as tie
 
 abbrev Inv-loop : tie.InvT-loop
-Inv-loop g mem₀ font code w style left top width height walk₀ j₀ mem walk j =
+Inv-loop g mem₀ font code w style r top walk₀ j₀ width mem walk j =
     (j ≤ width) × (length mem ≡ length mem₀) × Walked font code w style top j walk
-    × (mem ≡ rectMap g left top j height (inked style (cellByte font code w style top)) mem₀)
+    × (mem ≡ rectMap g (rectAt (r .left) top j (r .height)) (inked style (cellByte font code w style top)) mem₀)
 
 abbrev μ-loop : tie.MeasureT-loop
-μ-loop g mem₀ font code w style left top width height walk₀ j₀ mem walk j = width - j
+μ-loop g mem₀ font code w style r top walk₀ j₀ width mem walk j = width - j
 
 loop-holds : tie.Need-loop-holds Inv-loop μ-loop
 loop-holds c = (
   omega arith,
   refl,
   record { at-hand = c .column .ensures; counted = omega arith; short = omega arith; few = omega arith },
-  rect-none _ _ _ _ _ _ _ (λ a i. omega arith),
+  rect-none _ _ _ _ (λ a i. omega arith),
 )
 
 loop-again : tie.Need-loop-again Inv-loop μ-loop
 loop-again c =
-    let head = c .before .before .before .before .before .before .before .loop in
+    let head = c .before .before .before .before .before .before .before .before .loop in
+    let start = c .before .before .before .before .before .before .before .before .before .before .before .before in
     let walked =
-    walked-next _ _ _ _ _ _ _ _ (omega arith) (head .inv .2) (c .before .before .before .before .before .next .ensures) in (
+    walked-next _ _ _ _ _ _ _ _ (start .pre .1 .1 .0) (head .inv .2) (c .before .before .before .before .before .before .next .ensures) in (
       omega arith,
       omega (arith, c .before .before .mix-column .kept .1 .0),
       walked .0,

@@ -1,28 +1,29 @@
--- `dots::clear` meets its contract. The loop's invariant: the first r rows are zeroed. Assumes nothing.
+-- `dots::clear` meets its contract. The loop's invariant: the first i rows are zeroed. Assumes nothing.
 use mathlib.Core.Path.{_≡_, refl}
 use Prim.Native.Nat.{_≤_, _-_}
 use native.Mathlib.Omega.{arith}
 use lib.ListN.{length}
+use Rattle.paper.specs.Strokes.{rectAt}
 use Rattle.laws_memory.specs.Rectangles.{cleared}
 use Rattle.laws_memory.proofs.Rects.{rect-none, rect-turn, rect-end}
 use Rattle.dots.proofs.clear.Statement.{statement}
 use Rattle.dots.proofs.clear.Tie as tie
 
 abbrev Inv-loop : tie.InvT-loop
-Inv-loop g mem₀ left top width height r₀ mem r =
-    (r ≤ height) × (length mem ≡ length mem₀) × (mem ≡ cleared g left top width r mem₀)
+Inv-loop g mem₀ r i₀ height mem i =
+    (i ≤ height) × (length mem ≡ length mem₀) × (mem ≡ cleared g (rectAt (r .left) (r .top) (r .width) i) mem₀)
 
 abbrev μ-loop : tie.MeasureT-loop
-μ-loop g mem₀ left top width height r₀ mem r = height - r
+μ-loop g mem₀ r i₀ height mem i = height - i
 
 loop-holds : tie.Need-loop-holds Inv-loop μ-loop
 unfolding cleared
-loop-holds c = (omega arith, refl, rect-none _ _ _ _ _ _ _ (λ a i. omega arith))
+loop-holds c = (omega arith, refl, rect-none _ _ _ _ (λ a i. omega arith))
 
 loop-again : tie.Need-loop-again Inv-loop μ-loop
 unfolding cleared
 loop-again c =
-    let head = c .before .before .before .before .before .loop in
+    let head = c .before .before .before .before .before .before .loop in
     let clearing = c .before .before .clear-row in (
       omega arith,
       omega (arith, clearing .kept .1 .0),

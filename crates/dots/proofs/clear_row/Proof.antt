@@ -3,6 +3,7 @@ use mathlib.Core.Path.{_≡_, refl}
 use Prim.Native.Nat.{_≤_, _-_}
 use native.Mathlib.Omega.{arith}
 use lib.ListN.{length, length-set}
+use Rattle.paper.specs.Strokes.{rectAt}
 use Rattle.laws_memory.specs.Rectangles.{cleared}
 use Rattle.laws_memory.proofs.Rects.{rect-none, row-turn, row-end}
 use Rattle.dots.proofs.clear_row.Statement.{statement}
@@ -10,14 +11,14 @@ use Rattle.dots.proofs.clear_row.Tie as tie
 
 abbrev Inv-loop : tie.InvT-loop
 Inv-loop g mem₀ left y width j₀ mem j =
-    (j ≤ width) × (length mem ≡ length mem₀) × (mem ≡ cleared g left y j 1 mem₀)
+    (j ≤ width) × (length mem ≡ length mem₀) × (mem ≡ cleared g (rectAt left y j 1) mem₀)
 
 abbrev μ-loop : tie.MeasureT-loop
 μ-loop g mem₀ left y width j₀ mem j = width - j
 
 loop-holds : tie.Need-loop-holds Inv-loop μ-loop
 unfolding cleared
-loop-holds c = (omega arith, refl, rect-none _ _ _ _ _ _ _ (λ a i. omega arith))
+loop-holds c = (omega arith, refl, rect-none _ _ _ _ (λ a i. omega arith))
 
 loop-again : tie.Need-loop-again Inv-loop μ-loop
 unfolding cleared

@@ -6,7 +6,7 @@ use borrow.Author.Needs.{needs}
 use native.Mathlib.Omega.{arith}
 use lib.ListN.{length, getD}
 use Rattle.paper.specs.Panel.{address, glassLength}
-use Rattle.paper.specs.Strokes.{rectMap}
+use Rattle.paper.specs.Strokes.{rectAt, rectMap}
 use Rattle.laws_memory.specs.Glass.{copied}
 use Rattle.laws_memory.proofs.Addresses.{address-lt}
 use Rattle.laws_memory.proofs.Rects.{rect-none, row-turn, row-end}
@@ -17,13 +17,13 @@ use Rattle.dots.proofs.copy_row.Tie as tie
 abbrev Inv-loop : tie.InvT-loop
 Inv-loop g mem glass₀ y first width moved₀ j₀ glass moved j =
     (j ≤ width) × (moved ≡ j) × (length glass ≡ length glass₀)
-    × (glass ≡ rectMap g first y j 1 (λ i r b. getD mem (address g (first + i) (y + r)) 0) glass₀)
+    × (glass ≡ rectMap g (rectAt first y j 1) (λ i r b. getD mem (address g (first + i) (y + r)) 0) glass₀)
 
 abbrev μ-loop : tie.MeasureT-loop
 μ-loop g mem glass₀ y first width moved₀ j₀ glass moved j = width - j
 
 loop-holds : tie.Need-loop-holds Inv-loop μ-loop
-loop-holds c = (omega arith, refl, refl, rect-none _ _ _ _ _ _ _ (λ a i. omega arith))
+loop-holds c = (omega arith, refl, refl, rect-none _ _ _ _ (λ a i. omega arith))
 
 -- the column of a turn is visible, so its place is on the glass
 abbrev Visible : tie.In-loop Inv-loop μ-loop → Type 0

@@ -1,7 +1,7 @@
 -- `dots::grow_row` meets its contract: its test is the definition's. Assumes nothing.
 use borrow.Author.Needs.{needs}
 use borrow.Author.Tests.{ltb-true}
-use Rattle.laws_memory.specs.Spans.{grownRect}
+use Rattle.paper.specs.Strokes.{grownBy}
 use Rattle.laws_memory.proofs.Tests.{and-parts}
 use Rattle.dots.proofs.grow_row.Statement.{statement}
 use Rattle.dots.proofs.grow_row.Tie as tie
@@ -11,11 +11,11 @@ wide : tie.Need-grow-columns-requires
 wide c κs = (ltb-true _ _ (and-parts _ _ (c .if1 .taken) .0), search needs)
 
 returns : tie.Need-returns
-unfolding grownRect
+unfolding grownBy
 returns c = rw (c .before .if1 .taken) (c .grow-columns .ensures)
 
 returns-2 : tie.Need-returns-2
-unfolding grownRect
+unfolding grownBy
 returns-2 c = rw (c .if1 .left)
 
 pub grow-row-spec : {M : Type 1} → statement M

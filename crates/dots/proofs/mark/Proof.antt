@@ -9,8 +9,9 @@ use Rattle.dots.proofs.mark.Tie as tie
 
 returns : tie.Need-returns
 returns c =
+    let spans = c .before .before .before .before .args .t1 in
     ap₂ (λ (p q : Span). p ∷ q ∷ []) (c .before .before .grow-row .ensures) (c .grow-row2 .ensures)
-    ∙ mark-two _ _ _ _ _ (search needs)
+    ∙ mark-two _ spans (search needs)
 
 pub mark-spec : {M : Type 1} → statement M
 mark-spec =

@@ -1,8 +1,9 @@
--- `dots::pull` meets its contract. The loop's invariant: the first r rows are taken. Assumes nothing.
+-- `dots::pull` meets its contract. The loop's invariant: the first i rows are taken. Assumes nothing.
 use mathlib.Core.Path.{_≡_, refl}
 use Prim.Native.Nat.{_≤_, _-_}
 use native.Mathlib.Omega.{arith}
 use lib.ListN.{length}
+use Rattle.paper.specs.Strokes.{rectAt}
 use Rattle.laws_memory.specs.Rectangles.{pulled}
 use Rattle.laws_memory.proofs.Rects.{rect-none, rect-end}
 use Rattle.laws_memory.proofs.Pulls.{pull-turn}
@@ -10,20 +11,21 @@ use Rattle.dots.proofs.pull.Statement.{statement}
 use Rattle.dots.proofs.pull.Tie as tie
 
 abbrev Inv-loop : tie.InvT-loop
-Inv-loop g mem₀ left top width height right down r₀ mem r =
-    (r ≤ height) × (length mem ≡ length mem₀) × (mem ≡ pulled g left top width r right down mem₀)
+Inv-loop g mem₀ r right down i₀ height mem i =
+    (i ≤ height) × (length mem ≡ length mem₀)
+    × (mem ≡ pulled g (rectAt (r .left) (r .top) (r .width) i) right down mem₀)
 
 abbrev μ-loop : tie.MeasureT-loop
-μ-loop g mem₀ left top width height right down r₀ mem r = height - r
+μ-loop g mem₀ r right down i₀ height mem i = height - i
 
 loop-holds : tie.Need-loop-holds Inv-loop μ-loop
 unfolding pulled
-loop-holds c = (omega arith, refl, rect-none _ _ _ _ _ _ _ (λ a i. omega arith))
+loop-holds c = (omega arith, refl, rect-none _ _ _ _ (λ a i. omega arith))
 
 loop-again : tie.Need-loop-again Inv-loop μ-loop
 loop-again c =
-    let start = c .before .before .before .before .before .before .before in
-    let head = c .before .before .before .before .before .loop in
+    let start = c .before .before .before .before .before .before .before .before in
+    let head = c .before .before .before .before .before .before .loop in
     let pulling = c .before .before .pull-row in (
       omega arith,
       omega (arith, pulling .kept .1 .0),

@@ -3,6 +3,7 @@ use mathlib.Core.Path.{_≡_, refl}
 use Prim.Native.Nat.{_≤_, _-_}
 use native.Mathlib.Omega.{arith}
 use lib.ListN.{length, length-set}
+use Rattle.paper.specs.Strokes.{rectAt}
 use Rattle.laws_memory.specs.Rectangles.{pulled}
 use Rattle.laws_memory.proofs.Rects.{rect-none, row-end}
 use Rattle.laws_memory.proofs.Pulls.{pull-row-turn}
@@ -11,14 +12,14 @@ use Rattle.dots.proofs.pull_row.Tie as tie
 
 abbrev Inv-loop : tie.InvT-loop
 Inv-loop g mem₀ left y width right down j₀ mem j =
-    (j ≤ width) × (length mem ≡ length mem₀) × (mem ≡ pulled g left y j 1 right down mem₀)
+    (j ≤ width) × (length mem ≡ length mem₀) × (mem ≡ pulled g (rectAt left y j 1) right down mem₀)
 
 abbrev μ-loop : tie.MeasureT-loop
 μ-loop g mem₀ left y width right down j₀ mem j = width - j
 
 loop-holds : tie.Need-loop-holds Inv-loop μ-loop
 unfolding pulled
-loop-holds c = (omega arith, refl, rect-none _ _ _ _ _ _ _ (λ a i. omega arith))
+loop-holds c = (omega arith, refl, rect-none _ _ _ _ (λ a i. omega arith))
 
 loop-again : tie.Need-loop-again Inv-loop μ-loop
 loop-again c =

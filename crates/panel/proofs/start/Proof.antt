@@ -20,23 +20,24 @@ returns : tie.Need-returns
 returns c = start-refused _ _ (c .if1 .taken)
     (c .before .initial-state .ensures ∙ ap (λ (g : Geometry). initialState g) (c .before .before .module-size .ensures))
 
-clear-requires : tie.Need-clear-requires
+erase-requires : tie.Need-erase-requires
 unfolding panel
-clear-requires c κs = rw (c .before .before .before .module-size .ensures)
-    (record { across = omega arith; down = omega arith }, record { size = c .before .if1 .left; small = omega arith })
-
-mark-requires : tie.Need-mark-requires
-unfolding panel
-mark-requires c κs = rw (c .before .before .before .before .before .before .before .module-size .ensures) (omega arith, omega arith)
+erase-requires c κs =
+    let tested = c .before .before in
+    rw (tested .before .before .module-size .ensures)
+    (record { size = tested .if1 .left; small = omega arith }, (omega arith, omega arith))
 
 same-length : tie.Need-same-length
 same-length c = search needs
 
 returns-2 : tie.Need-returns-2
-unfolding panel
-returns-2 c = let g = c .before .before .before .before .before .before .before .before .before .before .before .module-size .ensures in
-    start-accepted _ _ _ _ (c .before .before .before .before .before .before .before .before .before .if1 .left) (c .before .before .before .before .before .before .before .before .before .before .initial-state .ensures ∙ ap (λ (g : Geometry). initialState g) g)
-    (rw g at (c .before .before .before .mark .ensures)) (rw g at (c .before .before .before .before .before .before .before .clear .ensures))
+returns-2 c =
+    let erasing = c .before .before .before .before .before in
+    let tested = erasing .before .before .before in
+    let made = tested .before in
+    let g = made .before .module-size .ensures in
+    start-accepted _ _ _ _ (tested .if1 .left) (made .initial-state .ensures ∙ ap (λ (g : Geometry). initialState g) g)
+    (rw g at (erasing .erase .ensures .1)) (rw g at (erasing .erase .ensures .0))
 
 pub start-spec : {M : Type 1} → statement M
 start-spec =
@@ -45,7 +46,6 @@ start-spec =
     module-size-requires
     initial-state-requires
     returns
-    clear-requires
-    mark-requires
+    erase-requires
     same-length
     returns-2)

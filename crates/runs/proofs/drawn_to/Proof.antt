@@ -1,12 +1,20 @@
 -- `runs::drawn_to` meets its contract. Assumes nothing.
 use borrow.Author.Needs.{needs}
+use native.Mathlib.Omega.{arith}
 use Rattle.runs.proofs.drawn_to.Statement.{statement}
 use Rattle.runs.proofs.drawn_to.Tie as tie
 
 returns : tie.Need-returns
-returns c = rw (c .to .ensures, c .before .mark .ensures)
+returns c = rw (c .place .ensures, c .before .before .marked .ensures)
 
 pub drawn-to-spec : {M : Type 1} → statement M
 drawn-to-spec =
     tie.close
-    (tie.spec (λ c. search needs) (λ c. search needs) (λ c. search needs) (λ c κs. search needs) (λ c κs. search needs) returns)
+    (tie.spec
+    (λ c. omega arith)
+    (λ c. omega arith)
+    (λ c. omega arith)
+    (λ c κs. omega arith)
+    (λ c. omega arith)
+    (λ c κs. search needs)
+    returns)

@@ -1,24 +1,32 @@
--- `runs::line` meets its contract. The loop's invariant: the line is drawn as far as column x, and what is left gives what the whole
--- gives. Assumes nothing.
-use mathlib.Core.Path.{_∙_}
-use Prim.Native.Nat.{_+_, _-_, _<_}
+-- `runs::line` meets its contract. The loop's invariant: the line is drawn as far as the next cell, and what is left gives what
+-- the whole gives. Assumes nothing.
+use mathlib.Core.Path.{_≡_, refl, ap, _∙_}
+use Prim.Native.Nat.{ℕ, _+_, _-_, _<_}
 use native.Mathlib.Omega.{arith}
 use lib.ListN.{length}
+use Rattle.paper.specs.declared.Rect.{Rect}
+use Rattle.paper.specs.Strokes.{rectAt}
+use Rattle.text.proofs.Steps.{sized-room}
 use Rattle.runs.proofs.Running.{Lining, lining-begin, room-for, lining-next, lining-end}
 use Rattle.runs.proofs.line.Statement.{statement}
 use Rattle.runs.proofs.line.Tie as tie
 
 abbrev Inv-loop : tie.InvT-loop
-Inv-loop g mem₀ font p w style c l piece from left top width x₀ i₀ mem x i = Lining g font w style p mem₀ piece from l mem x i
+Inv-loop g mem₀ font p cell piece from end style c r₀ i₀ mem r i =
+    Lining g font (cell .blanks) (cell .style) p mem₀ piece from (cell .rows) mem (r .left) i
+    × (r ≡ rectAt (r .left) (p .view .top + p .view .y) (cell .columns) (cell .rows))
 
 abbrev μ-loop : tie.MeasureT-loop
-μ-loop g mem₀ font p w style c l piece from left top width x₀ i₀ mem x i = length piece - i
+μ-loop g mem₀ font p cell piece from end style c r₀ i₀ mem r i = length piece - i
 
 loop-holds : tie.Need-loop-holds Inv-loop μ-loop
 loop-holds c =
-    let start = c .before .before .before .before .before in
-    let a = start .args in
-    lining-begin (a .g) (a .font .now) (a .w) (a .style) (a .p) (a .mem .now) (a .piece .now) (a .from) (a .l) (start .pre .0 .1 .0 .place) (start .pre .1 .0 .2)
+    let start = c .before .before .before .before .before .before .before .before in
+    let a = start .args in (
+      lining-begin (a .g) (a .font .now) (a .cell .blanks) (a .cell .style) (a .p) (a .mem .now) (a .piece .now) (a .from) (a .cell .rows)
+          (start .pre .0 .1 .0 .place) (start .pre .1 .0 .0),
+      refl,
+    )
 
 -- a byte more can be counted
 countable : (c : tie.In-loop Inv-loop μ-loop) → c .before .loop .i + 1 < 18446744073709551616
@@ -26,51 +34,82 @@ countable c = omega arith
 
 draw-requires : tie.Need-draw-requires Inv-loop μ-loop
 draw-requires c κs =
-    let head = c .before .before .before .before in
-    let start = c .before .before .before .before .before .before .before .before .before .before in
+    let tested = c .before in
+    let head = tested .before .before .before .before in
+    let start = head .before .before .before .before .before .before .before .before .before in
     let a = start .args in
-    let k = head .loop .inv in
-    let f = room-for (a .g) (a .font .now) (a .w) (a .style) (a .p) (a .mem .now) (a .piece .now) (a .from) _ (head .loop .x) (a .c) (a .p .view .width) (c .before .if1 .taken) in
+    let k = head .loop .inv .0 in
+    let f = room-for (a .g) (a .font .now) (a .cell .blanks) (a .cell .style) (a .p) (a .mem .now) (a .piece .now) (a .from) _ (head .loop .r .left)
+    (a .cell .columns) (a .p .view .left + a .p .view .width) (tested .if1 .taken) in
     let room = start .pre .0 .1 .0 in
     let inked = start .pre .0 .1 .1 .0 in
-    let fits = start .pre .0 .1 .1 .1 in (
-      (record { across = omega (arith, f .1, room .place .across); down = omega (arith, start .pre .1 .1 .1, room .place .down) }, record { size = k .went .size ∙ fits .size; small = fits .small }),
-      ((inked .whole, f .0), (inked .across-some, inked .down, omega arith)),
+    let fits = start .pre .0 .1 .1 .1 in
+    rw (head .loop .inv .1) (
+      (
+        record { across = omega (arith, f .1, room .place .across); down = omega (arith, start .pre .1 .1 .1, room .place .down) },
+        record { size = k .went .size ∙ fits .size; small = fits .small },
+      ),
+      ((inked .whole, f .0), (inked .cell .across-some, inked .cell .down, omega (arith, inked .cell .rows))),
     )
+
+-- and so can the next column
+add-r : tie.Need-add-r Inv-loop μ-loop
+add-r c =
+    let head = c .before .before .before .before .before .before .before .before .before in
+    let start = head .before .before .before .before .before .before .before .before .before in
+    omega (arith, head .loop .inv .0 .on, head .loop .inv .0 .went .within .x)
 
 loop-again : tie.Need-loop-again Inv-loop μ-loop
 loop-again c =
-    let drawing = c .before .before in
-    let head = c .before .before .before .before .before .before .before in
-    let start = c .before .before .before .before .before .before .before .before .before .before .before .before .before in
+    let drawing = c .before .before .before in
+    let tested = drawing .before .before in
+    let head = tested .before .before .before .before in
+    let start = head .before .before .before .before .before .before .before .before .before in
     let a = start .args in
-    let f = room-for (a .g) (a .font .now) (a .w) (a .style) (a .p) (a .mem .now) (a .piece .now) (a .from) _ (head .loop .x) (a .c) (a .p .view .width) (c .before .before .before .before .if1 .taken) in
-    rw (start .pre .1 .0 .0)
-    (lining-next (a .g) (a .font .now) (a .w) (a .style) (a .p) (a .mem .now) (a .piece .now) (a .from) (a .l) (head .loop .mem) (head .loop .x) (head .loop .i) (head .loop .inv) (start .pre .0 .1 .0) (start .pre .1 .0 .1) (omega arith)
-    (f .0) (rw (start .pre .1 .0 .0) at (f .1)) (start .pre .1 .1 .1) (rw (start .pre .1 .0 .0) at (drawing .draw .ensures)) (drawing .draw .kept .1 .0))
+    let w = a .cell .blanks in
+    let y = a .cell .style in
+    let size = start .pre .0 .1 .1 .0 .cell in
+    let f = room-for (a .g) (a .font .now) w y (a .p) (a .mem .now) (a .piece .now) (a .from) _ (head .loop .r .left)
+    (a .cell .columns) (a .p .view .left + a .p .view .width) (tested .if1 .taken) in
+    let room = sized-room (a .cell) size (start .pre .0 .1 .0) in (
+      rw (size .columns)
+          (lining-next (a .g) (a .font .now) w y (a .p) (a .mem .now) (a .piece .now) (a .from) (a .cell .rows) (head .loop .mem) (head .loop .r .left)
+          (head .loop .i) (head .loop .inv .0) room (size .rows) (omega arith) (f .0) (rw (size .columns) at (f .1)) (start .pre .1 .1 .1)
+          (rw (head .loop .inv .1, size .columns) at (drawing .draw .ensures)) (drawing .draw .kept .1 .0)),
+      ap (λ (q : Rect). rectAt (head .loop .r .left + a .cell .columns) (q .top) (q .width) (q .height)) (head .loop .inv .1),
+    )
 
 drawn-to-requires : tie.Need-drawn-to-requires Inv-loop μ-loop
 drawn-to-requires c κs =
-    let k = c .before .before .before .loop .inv in
-    omega (arith, k .on, k .went .within .x)
+    let head = c .before .before .before .before in
+    let start = head .before .before .before .before .before .before .before .before .before in
+    let k = head .loop .inv in
+    omega (arith, k .0 .on, k .0 .went .within .x, ap (λ (q : Rect). q .height) (k .1))
 
 returns : tie.Need-returns Inv-loop μ-loop
 returns c =
-    let head = c .before .before .before .before in
-    let start = c .before .before .before .before .before .before .before .before .before .before in
+    let tested = c .before in
+    let head = tested .before .before .before .before in
+    let start = head .before .before .before .before .before .before .before .before .before in
     let a = start .args in
-    rw (c .drawn-to .ensures) (lining-end (a .g) (a .font .now) (a .w) (a .style) (a .p) (a .mem .now) (a .piece .now) (a .from) (a .l) (head .loop .mem) (head .loop .x) (head .loop .i) (head .loop .inv) (a .c) (start .pre .1 .0 .3) (start .pre .1 .1 .0) (c .before .if1 .left), head .loop .inv .went)
+    let k = head .loop .inv .0 in
+    rw (c .drawn-to .ensures, ap (λ (q : Rect). q .height) (head .loop .inv .1)) (
+      lining-end (a .g) (a .font .now) (a .cell .blanks) (a .cell .style) (a .p) (a .mem .now) (a .piece .now) (a .from) (a .cell .rows) (head .loop .mem)
+          (head .loop .r .left) (head .loop .i) k (a .cell .columns) (start .pre .1 .0 .1) (start .pre .1 .1 .0) (tested .if1 .left),
+      k .went,
+    )
 
 drawn-to-requires-2 : tie.Need-drawn-to-requires-2 Inv-loop μ-loop
 drawn-to-requires-2 c κs =
+    let start = c .before .before .before .before .before .before .before .before .before .before in
     let k = c .before .loop .inv in
-    omega (arith, k .on, k .went .within .x)
+    omega (arith, k .0 .on, k .0 .went .within .x, ap (λ (q : Rect). q .height) (k .1))
 
 returns-2 : tie.Need-returns-2 Inv-loop μ-loop
 returns-2 c =
     let head = c .before .before in
-    let start = c .before .before .before .before .before .before .before .before in
-    rw (c .drawn-to2 .ensures) (omega arith, head .loop .inv .went)
+    let start = head .before .before .before .before .before .before .before .before .before in
+    rw (c .drawn-to2 .ensures, ap (λ (q : Rect). q .height) (head .loop .inv .1)) (omega arith, head .loop .inv .0 .went)
 
 pub line-spec : {M : Type 1} → statement M
 line-spec =
@@ -79,19 +118,20 @@ line-spec =
     Inv-loop
     μ-loop
     (λ c. omega arith)
+    (λ c. omega arith)
+    (λ c. omega arith)
     loop-holds
     (λ c. omega arith)
     (λ c. omega arith)
     (λ c. omega arith)
-    (λ c. omega arith)
     draw-requires
-    (λ c. omega arith)
-    (λ c. omega (arith, countable (c .before .before .before .before .before .before)))
+    add-r
+    (λ c. omega (arith, countable (c .before .before .before .before .before .before .before .before)))
     (λ c. omega arith)
     loop-again
     drawn-to-requires
-    (λ c. c .before .before .before .before .loop .inv .went .size)
+    (λ c. c .before .before .before .before .before .loop .inv .0 .went .size)
     returns
     drawn-to-requires-2
-    (λ c. c .before .before .loop .inv .went .size)
+    (λ c. c .before .before .loop .inv .0 .went .size)
     returns-2)

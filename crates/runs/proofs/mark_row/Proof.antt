@@ -7,7 +7,11 @@ use Rattle.runs.proofs.mark_row.Tie as tie
 
 returns : tie.Need-returns
 unfolding rowMark
-returns c = rw (c .mark .ensures, c .before .before .before .least4 .ensures, c .before .before .before .before .before .least3 .ensures, c .before .before .before .before .before .before .before .least2 .ensures, c .before .before .before .before .before .before .before .before .before .least .ensures)
+returns c =
+    let fourth = c .before .before .before in
+    let third = fourth .before .before in
+    let second = third .before .before in
+    rw (c .mark .ensures, fourth .least4 .ensures, third .least3 .ensures, second .least2 .ensures, second .before .before .least .ensures)
 
 pub mark-row-spec : {M : Type 1} → statement M
 mark-row-spec =

@@ -1,41 +1,51 @@
 -- `runs::push` meets its contract: HT in MD3's last cell pushes the line left. Assumes nothing.
 use borrow.Author.Needs.{needs}
-use mathlib.Core.Path.{_≡_, refl, _∙_}
 use native.Mathlib.Omega.{arith}
+use Rattle.paper.specs.Cells.{drawStroke}
+use Rattle.cells.specs.Drawn.{drawn}
+use Rattle.moves.proofs.Done.{does-stroke}
 use Rattle.runs.proofs.Lines.{drawn-pushed}
 use Rattle.runs.proofs.push.Statement.{statement}
 use Rattle.runs.proofs.push.Tie as tie
 
+draw-requires : tie.Need-draw-requires
+draw-requires c κs = rw (c .before .inside .ensures) (omega arith)
+
+marked-requires : tie.Need-marked-requires
+marked-requires c κs = rw (c .before .before .before .before .inside .ensures) (omega arith)
+
 push-left-requires : tie.Need-push-left-requires
 push-left-requires c κs =
-    let start = c .before .before .before .before .before .before .before .before .before .before .before .before in
-    let k = start .pre .1 .0 in
-    let fits = start .pre .0 .1 .1 .1 in (
-      start .pre .0 .0,
-      (
-        rw (k .0, k .1) (start .pre .0 .1 .0),
-        (start .pre .1 .1 .1, record { size = c .before .before .before .before .before .draw .kept .1 .0 ∙ fits .size; small = fits .small }),
-      ),
-    )
+    let marking = c .before in
+    let drawing = marking .before .before .before in
+    let pre = drawing .before .before .before .before .before .before .before .pre in
+    rw (marking .marked .ensures) (pre .0 .0, (pre .0 .1 .0, (pre .1 .1, omega (arith, drawing .draw .kept .1 .0))))
 
 returns : tie.Need-returns
+unfolding drawn
 returns c =
-    let start = c .before .before .before .before .before .before .before .before .before .before .before .before .before .before .before in
+    let pushing = c .before .before in
+    let marking = pushing .before .before in
+    let drawing = marking .before .before .before in
+    let placed = drawing .before .before in
+    let start = placed .before .before .before .before .before in
     let a = start .args in
-    let k = start .pre .1 .0 in
-    let f = start .pre .1 .1 in
-    drawn-pushed (a .g) (a .p .spans) (a .mem .now) (a .font .now) (a .w) (a .style) (a .code) (a .p .view) (k .2)
-    (rw (k .0) at (f .1)) (rw (k .0) at (f .0)) (rw (k .1) at (f .2))
-    (rw (k .0, k .1) at (c .before .before .before .before .mark .ensures)) (rw (k .0, k .1) at (c .before .before .before .before .before .before .before .before .draw .ensures)) (rw (k .0, k .1) at (c .before .before .push-left .ensures))
+    let size = start .pre .0 .1 .1 .0 .cell in
+    let f = start .pre .1 in
+    drawn-pushed (a .g) (a .p .spans) (a .mem .now) (a .font .now) (a .cell .blanks) (a .cell .style) (a .code) (a .p .view) (f .0)
+    (rw (size .columns) at (f .1)) (rw (size .columns) at (f .2))
+    (does-stroke (drawStroke (a .font .now) (a .cell .blanks) (a .cell .style) (a .code) (a .p .view)) (a .p .view)
+    (rw (placed .inside .ensures, size .columns, size .rows) at (marking .marked .ensures))
+    (rw (placed .inside .ensures, size .columns, size .rows) at (drawing .draw .ensures)))
+    (rw (size .columns, size .rows) at (pushing .push-left .ensures))
 
 pub push-spec : {M : Type 1} → statement M
 push-spec =
     tie.close
     (tie.spec
-    (λ c. search needs)
-    (λ c. search needs)
     (λ c κs. search needs)
-    (λ c κs. search needs)
+    draw-requires
+    marked-requires
     push-left-requires
     (λ c. search needs)
     returns)

@@ -3,43 +3,38 @@ use borrow.Author.Needs.{needs}
 use native.Mathlib.Omega.{arith}
 use Rattle.runs.proofs.Lines.{room-after}
 use Rattle.runs.proofs.Running.{went-begin, went-next}
+use Rattle.text.proofs.Steps.{sized-room}
 use Rattle.runs.proofs.stretch.Statement.{statement}
 use Rattle.runs.proofs.stretch.Tie as tie
 
 line-requires : tie.Need-line-requires
 line-requires c κs =
-    let start = c .before .before .before .before .before .before in
+    let start = c .before .before .before .before .before .before .before .before in
     let v = start .args .p .view in
-    let f = room-after (v .x) (start .args .c) (v .width) (v .y) (start .args .l) (v .height) (c .before .if1 .taken) in
+    let cell = start .args .cell in
     let k = start .pre .1 in
-    (start .pre .0, ((k .0, k .1, k .2, k .3), f))
+    (start .pre .0, ((k .0, k .1), room-after (v .x) (cell .columns) (v .width) (v .y) (cell .rows) (v .height) (c .before .if1 .taken)))
 
 last-requires : tie.Need-last-requires
 last-requires c κs =
-    let start = c .before .before .before .before .before .before .before in
-    let inked = start .pre .0 .1 .1 .0 in
-    let k = start .pre .1 in (
-      (
-        start .pre .0 .0,
-        (
-          start .pre .0 .1 .0,
-          (
-            record { whole = inked .whole; has = k .3; across-some = inked .across-some; down = inked .down },
-            start .pre .0 .1 .1 .1,
-          ),
-        ),
-      ),
-      (k .0, k .1),
-    )
+    let start = c .before .before .before .before .before .before .before .before .before in
+    let pre = start .pre .0 in
+    let inked = pre .1 .1 .0 in
+    (pre .0, (pre .1 .0, (record { whole = inked .whole; has = start .pre .1 .1; cell = inked .cell }, pre .1 .1 .1)))
 
 returns-2 : tie.Need-returns-2
 returns-2 c =
     let drawing = c .before .before in
-    let start = c .before .before .before .before .before .before .before .before .before .before in
-    let a = start .args in (
+    let start = drawing .before .before .before .before .before .before .before .before .before .before in
+    let a = start .args in
+    let w = a .cell .blanks in
+    let y = a .cell .style in
+    let room = start .pre .0 .1 .0 in
+    let k = start .pre .1 in
+    let begun = went-begin (a .g) (a .font .now) w y (a .p) (a .mem .now) (a .piece .now) (a .from) (room .place) (k .0) in (
       omega arith,
-      went-next (a .g) (a .font .now) (a .w) (a .style) (a .p) (a .mem .now) (a .piece .now) (a .from) (a .p) (a .mem .now) (a .from) (went-begin (a .g) (a .font .now) (a .w) (a .style) (a .p) (a .mem .now) (a .piece .now) (a .from) (start .pre .0 .1 .0 .place) (start .pre .1 .2)) (start .pre .0 .1 .0)
-          (start .pre .1 .2) (start .pre .1 .3) (drawing .last .ensures) (drawing .last .kept .1 .0),
+      went-next (a .g) (a .font .now) w y (a .p) (a .mem .now) (a .piece .now) (a .from) (a .p) (a .mem .now) (a .from) begun
+          (sized-room (a .cell) (start .pre .0 .1 .1 .0 .cell) room) (k .0) (k .1) (drawing .last .ensures) (drawing .last .kept .1 .0),
     )
 
 pub stretch-spec : {M : Type 1} → statement M
