@@ -138,7 +138,7 @@ module _ (g : Geometry) (font : List ℕ) (w : ℕ) (y : Style) (p : Spot) (m pi
         ≡ penAt p l (a + cellWidth w y) .spans
     longer =
         mark-at (penAt p l a .spans) (omega (arith, k .on)) refl refl refl
-        ∙ mark-beside start (p .view .top + p .view .y) (a - start) (cellWidth w y) l (p .spans)
+        ∙ mark-beside start (p .view .top + p .view .y) (a - p .view .left - p .view .x) (cellWidth w y) l (p .spans)
         ∙ mark-at (p .spans) refl refl (omega (arith, k .on)) refl
 
     -- a cell more

@@ -31,7 +31,7 @@ drawnTo p at = record { spot = p; at = at }
 abbrev pub penAt : Spot → ℕ → ℕ → Spot
 penAt p l end =
     spot (to (p .view) (end - p .view .left) (p .view .y))
-    (markRect (rectAt (p .view .left + p .view .x) (p .view .top + p .view .y) (end - (p .view .left + p .view .x)) l) (p .spans))
+    (markRect (rectAt (p .view .left + p .view .x) (p .view .top + p .view .y) (end - p .view .left - p .view .x) l) (p .spans))
 
 -- some characters drawn, from one place of a piece to another: what is left gives what the whole gives
 pub record Went (g : Geometry) (font : List ℕ) (w : ℕ) (y : Style) (p : Spot) (m piece : List ℕ) (from : ℕ) (r : Drawn) (m′ : List ℕ) : Type 0 where

@@ -37,14 +37,14 @@ fn drawn_to(p: Spot, l: usize, end: usize, at: usize) -> Drawn
     ensures { λ r. ⌜ r ≡ drawnTo (penAt p l end) at ⌝ }
 {
     let v = p.view;
-    let left = v.left + v.x;
+    let x = end - v.left;
     let line = Rect {
-        left,
+        left: v.left + v.x,
         top: v.top + v.y,
-        width: end - left,
+        width: x - v.x,
         height: l,
     };
-    let spot = moves::place(moves::marked(p, line), end - v.left, v.y);
+    let spot = moves::place(moves::marked(p, line), x, v.y);
     Drawn { spot, at }
 }
 

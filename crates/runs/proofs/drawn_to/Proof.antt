@@ -5,7 +5,7 @@ use Rattle.runs.proofs.drawn_to.Statement.{statement}
 use Rattle.runs.proofs.drawn_to.Tie as tie
 
 returns : tie.Need-returns
-returns c = rw (c .place .ensures, c .before .before .marked .ensures)
+returns c = rw (c .place .ensures, c .before .marked .ensures)
 
 pub drawn-to-spec : {M : Type 1} → statement M
 drawn-to-spec =
@@ -14,7 +14,7 @@ drawn-to-spec =
     (λ c. omega arith)
     (λ c. omega arith)
     (λ c. omega arith)
-    (λ c κs. omega arith)
     (λ c. omega arith)
+    (λ c κs. omega arith)
     (λ c κs. search needs)
     returns)
