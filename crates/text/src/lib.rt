@@ -7,7 +7,7 @@ use paper::Geometry;
 use paper::Rect;
 use paper::View;
 ghost use mathlib.Core.Path.{_≡_};
-ghost use Prim.Native.Nat.{_+_, _≤_, _<_};
+ghost use Prim.Native.Nat.{_+_, _<_};
 ghost use Rattle.paper.specs.Cells.{partOf};
 ghost use Rattle.paper.specs.Moves.{drawTab, blankTab, characterOf};
 ghost use Rattle.laws_memory.specs.Rectangles.{Fits};

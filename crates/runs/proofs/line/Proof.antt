@@ -1,7 +1,7 @@
 -- `runs::line` meets its contract. The loop's invariant: the line is drawn as far as the next cell, and what is left gives what
 -- the whole gives. Assumes nothing.
 use mathlib.Core.Path.{_≡_, refl, ap, _∙_}
-use Prim.Native.Nat.{ℕ, _+_, _-_, _<_}
+use Prim.Native.Nat.{_+_, _-_, _<_}
 use native.Mathlib.Omega.{arith}
 use lib.ListN.{length}
 use Rattle.paper.specs.declared.Rect.{Rect}
