@@ -20,6 +20,11 @@ struct lent {
 static struct lent ours, theirs;
 static uint8_t record[PANEL_STATE], font[PANEL_FONT];
 
+/* A feed's answer is written through a first argument: that is x86-64's rule for a large result, and the archive's module keeps to it
+ * where it is compiled for another machine. So the call is declared as what it is on both. */
+PanelFed *feed_into(PanelFed *fed, uint8_t *state, size_t n, uint8_t *memory, size_t memory_n, const uint8_t *font, size_t font_n,
+                    const uint8_t *piece, size_t piece_n) __asm__("panel_feed");
+
 enum call { START, FEED, HOLD, RELEASE, REFRESH, CALLS };
 
 static const char *const names[CALLS] = {"start", "feed", "hold", "release", "refresh"};
@@ -38,7 +43,8 @@ CALL our_start(void)
 CALL our_feed(const uint8_t *piece, size_t length)
 {
     HERE;
-    PanelFed f = panel_feed(record, sizeof record, ours.memory, sizeof ours.memory, font, sizeof font, piece, length);
+    PanelFed f;
+    feed_into(&f, record, sizeof record, ours.memory, sizeof ours.memory, font, sizeof font, piece, length);
     ours.counted += f.carried + f.answered;
 }
 
@@ -66,8 +72,8 @@ CALL our_refresh(void)
 static uint8_t earlier[EARLIER];
 
 uint32_t earlier_panel_start(uint8_t *state, size_t n, uint8_t *memory, size_t memory_n);
-PanelFed earlier_panel_feed(uint8_t *state, size_t n, uint8_t *memory, size_t memory_n, const uint8_t *font, size_t font_n,
-                            const uint8_t *piece, size_t piece_n);
+PanelFed *earlier_feed_into(PanelFed *fed, uint8_t *state, size_t n, uint8_t *memory, size_t memory_n, const uint8_t *font, size_t font_n,
+                            const uint8_t *piece, size_t piece_n) __asm__("earlier_panel_feed");
 uint32_t earlier_panel_hold(uint8_t *state, size_t n, size_t window);
 uint32_t earlier_panel_release(uint8_t *state, size_t n);
 PanelRefreshed earlier_panel_refresh(uint8_t *state, size_t n, const uint8_t *memory, size_t memory_n, uint8_t *glass, size_t glass_n);
@@ -81,7 +87,8 @@ CALL their_start(void)
 CALL their_feed(const uint8_t *piece, size_t length)
 {
     HERE;
-    PanelFed f = earlier_panel_feed(earlier, sizeof earlier, theirs.memory, sizeof theirs.memory, font, sizeof font, piece, length);
+    PanelFed f;
+    earlier_feed_into(&f, earlier, sizeof earlier, theirs.memory, sizeof theirs.memory, font, sizeof font, piece, length);
     theirs.counted += f.carried + f.answered;
 }
 

@@ -1,30 +1,29 @@
 // Whether a state record is accepted: number 8 of document 01, over every field of it.
 // It tests the record alone: memory, font and glass are not in it.
-// It uses the paper alone. `is_accepted` is the call; the tests of a setting, a rectangle and a window's number serve others too.
+// It uses the paper, and accept_half for what is half read. `is_accepted` is the call; the tests of a setting, a rectangle and a window's number serve others too.
 ghost use mathlib.Core.Path.{_≡_};
-ghost use Rattle.paper.specs.Bounds.{settingsOk, cursorOk, isBlank, windowOk, windowsOk, holdOk, spanOk, spansOk, wordOk, halfOk, accepted};
-ghost use Rattle.paper.specs.Reading.{between};
+ghost use Rattle.paper.specs.Bounds.{settingsOk, cursorOk, isBlank, windowOk, windowsOk, holdOk, spanOk, spansOk, accepted};
 ghost use Rattle.paper.specs.Settings.{inDomain, inEnlargement, isDefined, selectable, fits};
 use paper::Cursor;
-use paper::Geometry;
-use paper::Half;
 use paper::Hold;
 use paper::Key;
+use paper::Module;
 use paper::Settings;
 use paper::Span;
 use paper::State;
 use paper::Window;
-use paper::Word;
 
 // n is in the domain of the setting.
-pub fn in_domain(key: Key, n: u8) -> bool
-    ensures { λ r. ⌜ r ≡ inDomain key n ⌝ }
+pub fn in_domain(g: Module, key: Key, n: u8) -> bool
+    ensures { λ r. ⌜ r ≡ inDomain g key n ⌝ }
 {
     match key {
         Key::Charset => n <= 13,
-        Key::Codes => (n <= 5) | ((16 <= n) & (n <= 19)),
+        Key::Codes => (n <= 5) | (((16 <= n) & (n <= 19)) | (g.tables & (n == 0xFF))),
         Key::Caret => n <= 1,
-        Key::Brightness => (1 <= n) & (n <= 8),
+        Key::Brightness => {
+            ((g.dimmest <= n) & (n <= g.brightest)) | (g.finer & ((0x10 <= n) & (n <= 0x18)))
+        }
         Key::Reverse => n <= 1,
         Key::Speed => n <= 31,
         Key::Mixing => n <= 3,
@@ -41,19 +40,19 @@ pub fn in_enlargement(x: u8, y: u8) -> bool
 }
 
 // Each setting is in its domain.
-fn settings_ok(v: Settings) -> bool
-    ensures { λ r. ⌜ r ≡ settingsOk v ⌝ }
+fn settings_ok(g: Module, v: Settings) -> bool
+    ensures { λ r. ⌜ r ≡ settingsOk g v ⌝ }
 {
     let y = v.style;
-    in_domain(Key::Charset, v.charset)
-        & in_domain(Key::Codes, v.codes)
-        & in_domain(Key::Caret, v.caret)
-        & in_domain(Key::Brightness, v.brightness)
-        & in_domain(Key::Speed, v.speed)
-        & in_domain(Key::Width, v.width)
-        & in_domain(Key::Write, v.write)
-        & in_domain(Key::Reverse, y.reverse)
-        & in_domain(Key::Mixing, y.mixing)
+    in_domain(g, Key::Charset, v.charset)
+        & in_domain(g, Key::Codes, v.codes)
+        & in_domain(g, Key::Caret, v.caret)
+        & in_domain(g, Key::Brightness, v.brightness)
+        & in_domain(g, Key::Speed, v.speed)
+        & in_domain(g, Key::Width, v.width)
+        & in_domain(g, Key::Write, v.write)
+        & in_domain(g, Key::Reverse, y.reverse)
+        & in_domain(g, Key::Mixing, y.mixing)
         & in_enlargement(y.across, y.down)
 }
 
@@ -74,7 +73,7 @@ fn is_blank(w: Window) -> bool
 }
 
 // The rectangle has a column and a row, and does not leave the memory.
-pub fn fits(g: Geometry, left: u16, top: u16, width: u16, height: u16) -> bool
+pub fn fits(g: Module, left: u16, top: u16, width: u16, height: u16) -> bool
     ensures { λ r. ⌜ r ≡ fits g left top width height ⌝ }
 {
     let across = (left as usize) + (width as usize) <= g.columns;
@@ -83,7 +82,7 @@ pub fn fits(g: Geometry, left: u16, top: u16, width: u16, height: u16) -> bool
 }
 
 // The window is not defined, or it and its cursor are where they may be.
-fn window_ok(g: Geometry, w: Window) -> bool
+fn window_ok(g: Module, w: Window) -> bool
     ensures { λ r. ⌜ r ≡ windowOk g w ⌝ }
 {
     if is_blank(w) {
@@ -94,7 +93,7 @@ fn window_ok(g: Geometry, w: Window) -> bool
 }
 
 // The four user windows.
-fn windows_ok(g: Geometry, ws: [Window; 4]) -> bool
+fn windows_ok(g: Module, ws: [Window; 4]) -> bool
     ensures { λ r. ⌜ r ≡ windowsOk g ws ⌝ }
 {
     window_ok(g, ws[0]) & window_ok(g, ws[1]) & window_ok(g, ws[2]) & window_ok(g, ws[3])
@@ -122,8 +121,8 @@ pub fn selectable(ws: [Window; 4], k: u8) -> bool
 }
 
 // While held: the held window is the selected one, and what the release puts back may be put back.
-fn hold_ok(ws: [Window; 4], selected: u8, hold: Hold) -> bool
-    ensures { λ r. ⌜ r ≡ holdOk ws selected hold ⌝ }
+fn hold_ok(g: Module, ws: [Window; 4], selected: u8, hold: Hold) -> bool
+    ensures { λ r. ⌜ r ≡ holdOk g ws selected hold ⌝ }
 {
     match hold {
         Hold::Free => true,
@@ -132,100 +131,28 @@ fn hold_ok(ws: [Window; 4], selected: u8, hold: Hold) -> bool
             selected: back,
             settings,
         } => {
-            let kept = selectable(ws, back) & settings_ok(settings);
+            let kept = selectable(ws, back) & settings_ok(g, settings);
             (1 <= window) & ((window == selected) & (selectable(ws, window) & kept))
         }
     }
 }
 
 // The span is nothing, or its first column lies before its end, and its end in the memory.
-fn span_ok(g: Geometry, p: Span) -> bool
+fn span_ok(g: Module, p: Span) -> bool
     ensures { λ r. ⌜ r ≡ spanOk g p ⌝ }
 {
     ((p.first == 0) & (p.end == 0)) | ((p.first < p.end) & ((p.end as usize) <= g.columns))
 }
 
 // The spans of the two rows.
-fn spans_ok(g: Geometry, ps: [Span; 2]) -> bool
+fn spans_ok(g: Module, ps: [Span; 2]) -> bool
     ensures { λ r. ⌜ r ≡ spansOk g ps ⌝ }
 {
     span_ok(g, ps[0]) & span_ok(g, ps[1])
 }
 
-// a names a user window.
-fn is_window(a: u8) -> bool
-    ensures { λ r. ⌜ r ≡ between 1 4 a ⌝ }
-{
-    (1 <= a) & (a <= 4)
-}
-
-// n is an image's size in a memory of `most` columns or rows.
-fn is_size(most: usize, n: u16) -> bool
-    ensures { λ r. ⌜ r ≡ between 1 most n ⌝ }
-{
-    (1 <= n) & ((n as usize) <= most)
-}
-
-// The parameters before an awaited 16-bit parameter.
-fn word_ok(g: Geometry, word: Word) -> bool
-    ensures { λ r. ⌜ r ≡ wordOk g word ⌝ }
-{
-    match word {
-        Word::CursorX => true,
-        Word::CursorY { .. } => true,
-        Word::WindowLeft { a } => is_window(a),
-        Word::WindowTop { a, .. } => is_window(a),
-        Word::WindowWidth { a, .. } => is_window(a),
-        Word::WindowHeight { a, .. } => is_window(a),
-        Word::ImageWidth => true,
-        Word::ImageHeight { width } => is_size(g.columns, width),
-    }
-}
-
-// What is half read is a proper beginning of a command.
-fn half_ok(g: Geometry, half: Half) -> bool
-    ensures { λ r. ⌜ r ≡ halfOk g half ⌝ }
-{
-    match half {
-        Half::Nothing => true,
-        Half::Escape => true,
-        Half::Unit => true,
-        Half::Group => true,
-        Half::Actions => true,
-        Half::Images => true,
-        Half::Characters => true,
-        Half::Windows => true,
-        Half::Value(_) => true,
-        Half::Rest { left } => (1 <= left) & (left <= 5),
-        Half::DownloadA => true,
-        Half::DownloadFrom => true,
-        Half::DownloadTo { from } => 0x20 <= from,
-        Half::GlyphWidth { code, last } => (0x20 <= code) & (code <= last),
-        Half::GlyphByte { code, last, left } => {
-            (0x20 <= code) & ((code <= last) & ((1 <= left) & (left <= 7)))
-        }
-        Half::Low(word) => word_ok(g, word),
-        Half::High { word, .. } => word_ok(g, word),
-        Half::ImageKind { width, height } => is_size(g.columns, width) & is_size(g.rows, height),
-        Half::ImageData {
-            width,
-            height,
-            column,
-            row,
-        } => {
-            is_size(g.columns, width)
-                & (is_size(g.rows, height) & ((column < width) & (row < height)))
-        }
-        Half::EnlargeX => true,
-        Half::EnlargeY { .. } => true,
-        Half::SelectA => true,
-        Half::WindowA => true,
-        Half::WindowB { a } => is_window(a),
-    }
-}
-
 // Whether the record keeps every bound of document 01.
-pub fn is_accepted(g: Geometry, s: State) -> bool
+pub fn is_accepted(g: Module, s: State) -> bool
     ensures { λ r. ⌜ r ≡ accepted g s ⌝ }
 {
     let settings = s.settings;
@@ -235,11 +162,11 @@ pub fn is_accepted(g: Geometry, s: State) -> bool
     let hold = s.hold;
     let half = s.half;
     let spans = s.spans;
-    settings_ok(settings)
+    settings_ok(g, settings)
         & windows_ok(g, windows)
         & cursor_ok(g.columns, g.rows, base)
         & selectable(windows, selected)
-        & hold_ok(windows, selected, hold)
-        & half_ok(g, half)
+        & hold_ok(g, windows, selected, hold)
+        & accept_half::half_ok(g, half)
         & spans_ok(g, spans)
 }

@@ -1,32 +1,42 @@
 // Leaves measured: the functions that write memory and glass, exported to C for the benchmark in bench/.
-// It may use dots and cells. Each function works on the 112 by 16 module; it tests what its leaf asks and does nothing if that
+// It may use modules, dots and cells. Each function works on the 112 by 16 module; it tests what its leaf asks and does nothing if that
 // does not hold. It is no part of the panel.
-use paper::Geometry;
+use paper::Module;
 use paper::Rect;
 use paper::Span;
 use paper::Style;
+ghost use Rattle.laws_memory.specs.Rectangles.{Within};
+
+// The rectangle, or none of it if it leaves the memory.
+fn rect_in(g: Module, left: u16, top: u16, width: u16, height: u16) -> Rect
+    ensures { λ r. ⌜ Within g r ⌝ }
+{
+    let l = left as usize;
+    let t = top as usize;
+    let w = width as usize;
+    let h = height as usize;
+    if (g.columns < l + w) | (g.rows < t + h) {
+        return Rect {
+            left: 0,
+            top: 0,
+            width: 0,
+            height: 0,
+        };
+    }
+    Rect {
+        left: l,
+        top: t,
+        width: w,
+        height: h,
+    }
+}
 
 // Zeroes a rectangle.
 #[no_mangle]
 pub extern "C" fn leaf_clear(mem: &mut [u8], left: u16, top: u16, width: u16, height: u16) {
-    let g = Geometry {
-        columns: 512,
-        rows: 2,
-        visible: 112,
-    };
-    let r = Rect {
-        left: left as usize,
-        top: top as usize,
-        width: width as usize,
-        height: height as usize,
-    };
-    if mem.len() != 1024 {
-        return;
-    }
-    if 512 < r.left + r.width {
-        return;
-    }
-    if 2 < r.top + r.height {
+    let g = modules::small();
+    let r = rect_in(g, left, top, width, height);
+    if mem.len() != modules::memory_length(g) {
         return;
     }
     dots::clear(g, mem, r);
@@ -42,24 +52,9 @@ pub extern "C" fn leaf_scroll_up(
     height: u16,
     lines: u16,
 ) {
-    let g = Geometry {
-        columns: 512,
-        rows: 2,
-        visible: 112,
-    };
-    let r = Rect {
-        left: left as usize,
-        top: top as usize,
-        width: width as usize,
-        height: height as usize,
-    };
-    if mem.len() != 1024 {
-        return;
-    }
-    if 512 < r.left + r.width {
-        return;
-    }
-    if 2 < r.top + r.height {
+    let g = modules::small();
+    let r = rect_in(g, left, top, width, height);
+    if mem.len() != modules::memory_length(g) {
         return;
     }
     dots::scroll_up(g, mem, r, lines as usize);
@@ -75,24 +70,9 @@ pub extern "C" fn leaf_move_left(
     height: u16,
     n: u16,
 ) {
-    let g = Geometry {
-        columns: 512,
-        rows: 2,
-        visible: 112,
-    };
-    let r = Rect {
-        left: left as usize,
-        top: top as usize,
-        width: width as usize,
-        height: height as usize,
-    };
-    if mem.len() != 1024 {
-        return;
-    }
-    if 512 < r.left + r.width {
-        return;
-    }
-    if 2 < r.top + r.height {
+    let g = modules::small();
+    let r = rect_in(g, left, top, width, height);
+    if mem.len() != modules::memory_length(g) {
         return;
     }
     dots::move_left(g, mem, r, n as usize);
@@ -113,27 +93,12 @@ pub extern "C" fn leaf_draw(
     across: u8,
     down: u8,
 ) {
-    let g = Geometry {
-        columns: 512,
-        rows: 2,
-        visible: 112,
-    };
-    let r = Rect {
-        left: left as usize,
-        top: top as usize,
-        width: width as usize,
-        height: height as usize,
-    };
-    if mem.len() != 1024 {
+    let g = modules::small();
+    let r = rect_in(g, left, top, width, height);
+    if mem.len() != modules::memory_length(g) {
         return;
     }
-    if 512 < r.left + r.width {
-        return;
-    }
-    if 2 < r.top + r.height {
-        return;
-    }
-    if font.len() != 1120 {
+    if font.len() != modules::font_length(g) {
         return;
     }
     if code < 0x20 {
@@ -160,15 +125,11 @@ pub extern "C" fn leaf_draw(
 // Copies both rows' columns from `first` to the one before `end` to the glass, and says how many bytes that were.
 #[no_mangle]
 pub extern "C" fn leaf_refresh(mem: &[u8], glass: &mut [u8], first: u16, end: u16) -> usize {
-    let g = Geometry {
-        columns: 512,
-        rows: 2,
-        visible: 112,
-    };
-    if mem.len() != 1024 {
+    let g = modules::small();
+    if mem.len() != modules::memory_length(g) {
         return 0;
     }
-    if glass.len() != 224 {
+    if glass.len() != modules::glass_length(g) {
         return 0;
     }
     let p = Span { first, end };

@@ -3,8 +3,8 @@
 // Each contract says that what was done is what the paper's meaning says.
 use carry_state::Done;
 use paper::Command;
-use paper::Geometry;
 use paper::Half;
+use paper::Module;
 use paper::Outcome;
 use paper::Reading;
 use paper::State;
@@ -17,8 +17,8 @@ ghost use Rattle.laws_bytes.specs.Readings.{commandOk, readingOk};
 ghost use Rattle.carry_dots.specs.Does.{Ready, Does};
 
 // A command read whole.
-fn carry_out(g: Geometry, mem: &mut [u8], font: &[u8], s: State, c: Command) -> Done
-    requires { ⌜ Ready g s (now mem) × ((length (now font) ≡ fontLength) × (commandOk c ≡ true)) ⌝ }
+fn carry_out(g: Module, mem: &mut [u8], font: &[u8], s: State, c: Command) -> Done
+    requires { ⌜ Ready g s (now mem) × ((length (now font) ≡ fontLength g) × (commandOk c ≡ true)) ⌝ }
     ensures { λ r. ⌜ Does g (now (mem .entry)) r (now (mem .exit)) (commandOf g (now (font .entry)) s c) ⌝ }
 {
     let h = s.hold;
@@ -50,8 +50,8 @@ fn carry_out(g: Geometry, mem: &mut [u8], font: &[u8], s: State, c: Command) -> 
 }
 
 // What a byte gave to the half-read command, taken.
-pub fn take(g: Geometry, mem: &mut [u8], font: &[u8], s: State, r: Reading) -> Done
-    requires { ⌜ Ready g s (now mem) × ((length (now font) ≡ fontLength) × (readingOk g r ≡ true)) ⌝ }
+pub fn take(g: Module, mem: &mut [u8], font: &[u8], s: State, r: Reading) -> Done
+    requires { ⌜ Ready g s (now mem) × ((length (now font) ≡ fontLength g) × (readingOk g r ≡ true)) ⌝ }
     ensures { λ d. ⌜ Does g (now (mem .entry)) d (now (mem .exit)) (takeOf g (now (font .entry)) s r) ⌝ }
 {
     match r {

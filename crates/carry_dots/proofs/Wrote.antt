@@ -4,7 +4,7 @@ use mathlib.Core.Bool.{Bool, true, false, cond, _&&_}
 use mathlib.Core.List.{List, [], _∷_}
 use Prim.Native.Nat.{ℕ, _+_, _<_, _≤_}
 use lib.Dec.{ltb, eqb}
-use Rattle.paper.specs.declared.Geometry.{Geometry}
+use Rattle.paper.specs.declared.Module.{Module}
 use Rattle.paper.specs.declared.Cursor.{Cursor}
 use Rattle.paper.specs.declared.Half.{Half}
 use Rattle.paper.specs.declared.Outcome.{Outcome}
@@ -16,14 +16,16 @@ use Rattle.paper.specs.declared.View.{View}
 use Rattle.paper.specs.Strokes.{Stroke, rectAt, applyAll, markRect, markAll}
 use Rattle.paper.specs.Settings.{initialState, withHalf, withBase, windowAt, defined, withCursor, atCursor, cursorIn, viewOf, withView, withSpans}
 use Rattle.paper.specs.Bounds.{halfOk}
-use Rattle.paper.specs.Cells.{cellWidth, cellHeight, tooLarge, memoryRect, eraseStroke}
+use Rattle.paper.specs.Cells.{tooLarge, memoryRect, eraseStroke}
 use Rattle.paper.specs.Moves.{Moved}
-use Rattle.paper.specs.Carry.{Meaning, means, answers, moves, imageStrokes}
+use Rattle.paper.specs.Carry.{Meaning, means, answers, exceeds, moves, imageStrokes}
 use Rattle.paper.specs.Calls.{settled}
 use Rattle.carry_state.specs.declared.Done.{Done}
 use Rattle.carry_state.specs.Says.{Says, done}
 use Rattle.laws_state.specs.Room.{Kept}
-use Rattle.carry_state.proofs.Facts.{selected-small, place-small}
+use Rattle.carry_state.proofs.Facts.{selected-small, place-small, tested}
+use Rattle.cells.specs.declared.Cell.{Cell}
+use Rattle.cells.specs.Cell.{cellOf}
 use Rattle.cells.specs.Drawn.{imaged}
 use Rattle.laws_state.proofs.Parts.{parts, whole}
 use Rattle.laws_state.proofs.Builders.{half-parts}
@@ -41,7 +43,7 @@ cursor-spans s k = go (eqb (s .selected) 0) where
   go true = refl
   go false = refl
 
-module _ {g : Geometry} {m : List ℕ} where
+module _ {g : Module} {m : List ℕ} where
   -- a command that was answered, and left memory alone
   pub does-answer : {r : Done} {e : Meaning} {s : State} {o : Outcome} → r ≡ done s o → e ≡ answers s o → Does g m r m e
   does-answer f h =
@@ -74,20 +76,20 @@ module _ {g : Geometry} {m : List ℕ} where
         mem = d .mem ∙ sym (ap (λ (x : Meaning). applyAll g m (x .strokes)) h);
       }
 
--- whether the cell exceeds the range, by what the two calls gave
-pub tested : (s : State) (g : Geometry) (p : Spot) (w : ℕ) (y : Style) (t u : Bool) → p ≡ pens.spot (viewOf g s) (s .spans)
-    → t ≡ tooLarge (p .view) (cellWidth w y) (cellHeight y) → t ≡ u → tooLarge (viewOf g s) (cellWidth w y) (cellHeight y) ≡ u
-tested s g p w y t u e f h = sym (ap (λ (q : Spot). tooLarge (q .view) (cellWidth w y) (cellHeight y)) e) ∙ sym f ∙ h
+-- whether the cell exceeds the range, by what the calls gave
+pub spot-tested : (g : Module) (s : State) (p : Spot) (c : Cell) (t u : Bool) → p ≡ pens.spot (viewOf g s) (s .spans)
+    → c ≡ cellOf g (s .settings .width) (s .settings .style) → t ≡ tooLarge (p .view) (c .columns) (c .rows) → t ≡ u → exceeds g s ≡ u
+spot-tested g s p c t u e = tested g s (p .view) c t u (ap (λ (q : Spot). q .view) e)
 
 -- what `settle` asks of a spot after a move that keeps its range
-pub settles : (g : Geometry) (s : State) (m : List ℕ) (t : Moved) (v : View) → Ready g s m → Kept (viewOf g s) t → v ≡ t .view
+pub settles : (g : Module) (s : State) (m : List ℕ) (t : Moved) (v : View) → Ready g s m → Kept (viewOf g s) t → v ≡ t .view
     → (s .selected ≤ 4) × (v .left + v .x < 65536) × (v .top + v .y < 65536)
 settles g s m t v r k e =
     let p = place-small g (viewOf g s) t (r .usable) (view-place g (r .usable) s (r .state-ok)) k in
     (selected-small g s (r .state-ok), rw e (p .0), rw e (p .1))
 
 -- a state with another half-read command is as ready
-pub ready-half : (g : Geometry) (s : State) (m : List ℕ) (p : Half) → halfOk g p ≡ true → Ready g s m → Ready g (withHalf s p) m
+pub ready-half : (g : Module) (s : State) (m : List ℕ) (p : Half) → halfOk g p ≡ true → Ready g s m → Ready g (withHalf s p) m
 ready-half g s m p h r =
     record {
       usable = r .usable;
@@ -97,7 +99,7 @@ ready-half g s m p h r =
     }
 
 -- an image byte, and what is half read after it
-pub does-picture : {g : Geometry} {m m′ : List ℕ} {r : Done} {ps : List Span} (s : State) (p : Half) (o : Outcome) (column row b : ℕ)
+pub does-picture : {g : Module} {m m′ : List ℕ} {r : Done} {ps : List Span} (s : State) (p : Half) (o : Outcome) (column row b : ℕ)
     → ImageStored g (pens.spot (viewOf g s) (s .spans)) (s .settings .style) column row b m ps m′
     → r ≡ done (withHalf (withSpans s ps) p) o
     → Does g m r m′ (means (withHalf s p) o (imageStrokes (viewOf g s) (s .settings .style) column row b))
@@ -109,7 +111,7 @@ does-picture s p o column row b d f =
     }
 
 -- all of memory zeroed, and the initial state
-pub does-erase : {g : Geometry} {m m′ : List ℕ} {r : Done} {e : Meaning} {t : State} {ps : List Span} (s : State)
+pub does-erase : {g : Module} {m m′ : List ℕ} {r : Done} {e : Meaning} {t : State} {ps : List Span} (s : State)
     → m′ ≡ cleared g (memoryRect g) m → ps ≡ markRect (memoryRect g) (s .spans) → t ≡ initialState g
     → r ≡ done (withSpans t ps) Carried → e ≡ means (withSpans (initialState g) (s .spans)) Carried (eraseStroke g ∷ [])
     → Does g m r m′ e
@@ -124,7 +126,7 @@ does-erase {g} {m} s c k i f h =
       mem = c ∙ sym (ap (λ (x : Meaning). applyAll g m (x .strokes)) h);
     }
 
-module _ (g : Geometry) (p : Spot) (y : Style) (column row b : ℕ) (m : List ℕ) where
+module _ (g : Module) (p : Spot) (y : Style) (column row b : ℕ) (m : List ℕ) where
   -- an image byte inside the range is stored
   pub image-stored-in : {m′ : List ℕ} {ps : List Span} → (ltb (p .view .x + column) (p .view .width) && ltb (p .view .y + row) (p .view .height)) ≡ true
       → m′ ≡ imaged g y (p .view .left + (p .view .x + column)) (p .view .top + (p .view .y + row)) b m

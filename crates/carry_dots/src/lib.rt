@@ -4,7 +4,7 @@
 use carry_state::Done;
 use moves::Spot;
 use paper::Command;
-use paper::Geometry;
+use paper::Module;
 use paper::Outcome;
 use paper::Rect;
 use paper::Span;
@@ -25,7 +25,7 @@ ghost use Rattle.carry_dots.specs.Does.{Ready, Does, ImageStored};
 // ---- moves of the current window that write
 
 // The current window's range and cursor, and the spans.
-pub fn spot_of(g: Geometry, s: State) -> Spot
+pub fn spot_of(g: Module, s: State) -> Spot
     requires { ⌜ (s .selected ≤ 4) × (g .visible ≤ g .columns) ⌝ }
     ensures { λ r. ⌜ r ≡ spot (viewOf g s) (s .spans) ⌝ }
 {
@@ -45,57 +45,49 @@ pub fn settle(s: State, p: Spot) -> State
 }
 
 // A character.
-pub fn character(g: Geometry, mem: &mut [u8], font: &[u8], s: State, code: u8) -> Done
-    requires { ⌜ Ready g s (now mem) × ((length (now font) ≡ fontLength) × (0x20 ≤ code)) ⌝ }
+pub fn character(g: Module, mem: &mut [u8], font: &[u8], s: State, code: u8) -> Done
+    requires { ⌜ Ready g s (now mem) × ((length (now font) ≡ fontLength g) × (0x20 ≤ code)) ⌝ }
     ensures { λ r. ⌜ Does g (now (mem .entry)) r (now (mem .exit)) (commandOf g (now (font .entry)) s (Command.Character code)) ⌝ }
 {
     let p = spot_of(g, s);
-    let v = s.settings;
-    let style = v.style;
-    let w = v.width;
-    if carry_state::is_too_large(p.view, w, style) {
+    let cell = carry_state::cell_now(g, s);
+    if carry_state::is_too_large(p.view, cell) {
         return carry_state::ends(s, Outcome::TooLarge);
     }
-    let cell = cells::cell_of(w, style);
     let q = text::character(g, mem, font, p, cell, code);
     carry_state::ends(settle(s, q), Outcome::Carried)
 }
 
 // HT.
-pub fn tab(g: Geometry, mem: &mut [u8], s: State) -> Done
+pub fn tab(g: Module, mem: &mut [u8], s: State) -> Done
     requires { ⌜ Ready g s (now mem) ⌝ }
     ensures { λ r. ⌜ ((font : List ℕ) → Does g (now (mem .entry)) r (now (mem .exit)) (commandOf g font s Command.Tab)) ⌝ }
 {
     let p = spot_of(g, s);
-    let v = s.settings;
-    let style = v.style;
-    let w = v.width;
-    if carry_state::is_too_large(p.view, w, style) {
+    let cell = carry_state::cell_now(g, s);
+    if carry_state::is_too_large(p.view, cell) {
         return carry_state::ends(s, Outcome::TooLarge);
     }
-    let c = cells::cell_width(w, style);
-    let q = moves::tab(g, mem, p, c, style.down as usize);
+    let q = moves::tab(g, mem, p, cell.columns, cell.rows);
     carry_state::ends(settle(s, q), Outcome::Carried)
 }
 
 // LF.
-pub fn line_feed(g: Geometry, mem: &mut [u8], s: State) -> Done
+pub fn line_feed(g: Module, mem: &mut [u8], s: State) -> Done
     requires { ⌜ Ready g s (now mem) ⌝ }
     ensures { λ r. ⌜ ((font : List ℕ) → Does g (now (mem .entry)) r (now (mem .exit)) (commandOf g font s Command.LineFeed)) ⌝ }
 {
     let p = spot_of(g, s);
-    let v = s.settings;
-    let style = v.style;
-    let w = v.width;
-    if carry_state::is_too_large(p.view, w, style) {
+    let cell = carry_state::cell_now(g, s);
+    if carry_state::is_too_large(p.view, cell) {
         return carry_state::ends(s, Outcome::TooLarge);
     }
-    let q = moves::line_feed(g, mem, p, style.down as usize);
+    let q = moves::line_feed(g, mem, p, cell.rows);
     carry_state::ends(settle(s, q), Outcome::Carried)
 }
 
 // CLR.
-pub fn clear(g: Geometry, mem: &mut [u8], s: State) -> Done
+pub fn clear(g: Module, mem: &mut [u8], s: State) -> Done
     requires { ⌜ Ready g s (now mem) ⌝ }
     ensures { λ r. ⌜ ((font : List ℕ) → Does g (now (mem .entry)) r (now (mem .exit)) (commandOf g font s Command.Clear)) ⌝ }
 {
@@ -105,7 +97,7 @@ pub fn clear(g: Geometry, mem: &mut [u8], s: State) -> Done
 }
 
 // Initialise: the initial state, and all of memory zeroed.
-pub fn initialise(g: Geometry, mem: &mut [u8], s: State, held: bool) -> Done
+pub fn initialise(g: Module, mem: &mut [u8], s: State, held: bool) -> Done
     requires { ⌜ Ready g s (now mem) × (held ≡ isHeld (s .hold)) ⌝ }
     ensures { λ r. ⌜ ((font : List ℕ) → Does g (now (mem .entry)) r (now (mem .exit)) (commandOf g font s Command.Initialise)) ⌝ }
 {
@@ -123,7 +115,7 @@ pub fn initialise(g: Geometry, mem: &mut [u8], s: State, held: bool) -> Done
 // One byte of an image, so far from the spot's cursor; outside the range it is consumed. The cursor stays. It knows no state, so
 // that the compiler need not lay one down for each byte.
 pub fn image_byte(
-    g: Geometry,
+    g: Module,
     mem: &mut [u8],
     p: Spot,
     style: Style,

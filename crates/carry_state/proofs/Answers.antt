@@ -3,7 +3,7 @@ use mathlib.Core.Path.{_≡_, sym, ap, _∙_}
 use mathlib.Core.Bool.{true, false, _&&_}
 use mathlib.Core.List.{List, []}
 use Prim.Native.Nat.{ℕ}
-use Rattle.paper.specs.declared.Geometry.{Geometry}
+use Rattle.paper.specs.declared.Module.{Module}
 use Rattle.paper.specs.declared.Command.{Command}
 use Rattle.paper.specs.declared.Outcome.{Outcome}
 use Rattle.paper.specs.declared.Outcome.the-variants.{OutOfDomain, NotCarried, WindowHeld, TooLarge, NotDefined}
@@ -13,7 +13,7 @@ use Rattle.laws_state.proofs.Cases.{Allowed}
 use Rattle.carry_state.specs.declared.Done.{Done}
 use Rattle.carry_state.specs.Says.{Says, done}
 
-module _ (g : Geometry) (font : List ℕ) (s : State) (c : Command) where
+module _ (g : Module) (font : List ℕ) (s : State) (c : Command) where
   -- a command that is not carried
   pub is-14 : askedOf g s c .notCarried ≡ true → commandOf g font s c ≡ answers s NotCarried
   unfolding commandOf

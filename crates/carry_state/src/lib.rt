@@ -1,22 +1,23 @@
 // Carrying out what writes nothing: the commands that change the state alone, each with its answers 14, 15, 11, 17, 16 in their order.
 // It may use state for the state's parts and moves and cells for where a cursor goes; it knows nothing of memory.
 // Each contract says that the state and the outcome are those of the paper's meaning, and that the meaning has no strokes.
+use cells::Cell;
 use paper::Command;
 use paper::Cursor;
-use paper::Geometry;
 use paper::Key;
+use paper::Module;
 use paper::Outcome;
 use paper::State;
-use paper::Style;
 use paper::View;
 ghost use mathlib.Core.Path.{_≡_};
 ghost use mathlib.Core.Bool.{true};
 ghost use mathlib.Core.List.{List};
 ghost use Prim.Native.Nat.{ℕ, _≤_, _<_};
-ghost use Rattle.paper.specs.Cells.{cellWidth, cellHeight, tooLarge};
+ghost use Rattle.paper.specs.Cells.{tooLarge};
 ghost use Rattle.paper.specs.Bounds.{accepted};
 ghost use Rattle.paper.specs.Carry.{isHeld, commandOf};
 ghost use Rattle.laws_state.specs.Room.{Usable};
+ghost use Rattle.cells.specs.Cell.{cellOf};
 ghost use Rattle.carry_state.specs.Says.{Says, done};
 
 // What a command or a byte came to: the state afterwards, and the outcome.
@@ -32,36 +33,41 @@ pub fn ends(state: State, outcome: Outcome) -> Done
     Done { state, outcome }
 }
 
-// Whether a cell exceeds the range.
-pub fn is_too_large(v: View, w: u8, style: Style) -> bool
-    ensures { λ r. ⌜ r ≡ tooLarge v (cellWidth w style) (cellHeight style) ⌝ }
+// The cell that a character takes now, measured once for a command.
+pub fn cell_now(g: Module, s: State) -> Cell
+    requires { ⌜ g .glyph ≤ 8 ⌝ }
+    ensures { λ c. ⌜ c ≡ cellOf g (s .settings .width) (s .settings .style) ⌝ }
 {
-    let c = cells::cell_width(w, style);
-    let l = style.down as usize;
-    (v.width < c) | (v.height < l)
+    let v = s.settings;
+    let style = v.style;
+    cells::cell_of(g, v.width, style)
+}
+
+// Whether a cell exceeds the range.
+pub fn is_too_large(v: View, cell: Cell) -> bool
+    ensures { λ r. ⌜ r ≡ tooLarge v (cell .columns) (cell .rows) ⌝ }
+{
+    (v.width < cell.columns) | (v.height < cell.rows)
 }
 
 // ---- moves of the current window's cursor
 
 // BS.
-pub fn back(g: Geometry, s: State) -> Done
+pub fn back(g: Module, s: State) -> Done
     requires { ⌜ Usable g × (accepted g s ≡ true) ⌝ }
     ensures { λ r. ⌜ ((font : List ℕ) → Says r (commandOf g font s Command.Back)) ⌝ }
 {
     let view = state::view_of(g, s);
-    let v = s.settings;
-    let style = v.style;
-    let w = v.width;
-    if is_too_large(view, w, style) {
+    let cell = cell_now(g, s);
+    if is_too_large(view, cell) {
         return ends(s, Outcome::TooLarge);
     }
-    let c = cells::cell_width(w, style);
-    let to = moves::back(view, c, style.down as usize);
+    let to = moves::back(view, cell.columns, cell.rows);
     ends(state::with_view(s, to), Outcome::Carried)
 }
 
 // HOM.
-pub fn home(g: Geometry, s: State) -> Done
+pub fn home(g: Module, s: State) -> Done
     requires { ⌜ Usable g × (accepted g s ≡ true) ⌝ }
     ensures { λ r. ⌜ ((font : List ℕ) → Says r (commandOf g font s Command.Home)) ⌝ }
 {
@@ -71,7 +77,7 @@ pub fn home(g: Geometry, s: State) -> Done
 }
 
 // CR.
-pub fn carriage_return(g: Geometry, s: State) -> Done
+pub fn carriage_return(g: Module, s: State) -> Done
     requires { ⌜ Usable g × (accepted g s ≡ true) ⌝ }
     ensures { λ r. ⌜ ((font : List ℕ) → Says r (commandOf g font s Command.Return)) ⌝ }
 {
@@ -83,7 +89,7 @@ pub fn carriage_return(g: Geometry, s: State) -> Done
 // ---- settings and windows; `held` says whether a window is held
 
 // A window selected.
-pub fn select(g: Geometry, s: State, held: bool, k: u8) -> Done
+pub fn select(g: Module, s: State, held: bool, k: u8) -> Done
     requires { ⌜ held ≡ isHeld (s .hold) ⌝ }
     ensures { λ r. ⌜ ((font : List ℕ) → Says r (commandOf g font s (Command.Select k))) ⌝ }
 {
@@ -101,7 +107,7 @@ pub fn select(g: Geometry, s: State, held: bool, k: u8) -> Done
 }
 
 // MD1, MD2, MD3.
-pub fn mode(g: Geometry, s: State, n: u8) -> Done
+pub fn mode(g: Module, s: State, n: u8) -> Done
     requires { ⌜ s .selected ≤ 4 ⌝ }
     ensures { λ r. ⌜ ((font : List ℕ) → Says r (commandOf g font s (Command.Mode n))) ⌝ }
 {
@@ -109,7 +115,7 @@ pub fn mode(g: Geometry, s: State, n: u8) -> Done
 }
 
 // A setting that one byte gives.
-pub fn set(g: Geometry, s: State, held: bool, key: Key, n: u8) -> Done
+pub fn set(g: Module, s: State, held: bool, key: Key, n: u8) -> Done
     requires { ⌜ held ≡ isHeld (s .hold) ⌝ }
     ensures { λ r. ⌜ ((font : List ℕ) → Says r (commandOf g font s (Command.Set key n))) ⌝ }
 {
@@ -119,7 +125,7 @@ pub fn set(g: Geometry, s: State, held: bool, key: Key, n: u8) -> Done
     if state::is_write(key) & held {
         return ends(s, Outcome::WindowHeld);
     }
-    if accept::in_domain(key, n) {
+    if accept::in_domain(g, key, n) {
         let v = s.settings;
         let settings = state::with_setting(v, key, n);
         return ends(State { settings, ..s }, Outcome::Carried);
@@ -128,7 +134,7 @@ pub fn set(g: Geometry, s: State, held: bool, key: Key, n: u8) -> Done
 }
 
 // The enlargement.
-pub fn enlarge(g: Geometry, s: State, x: u8, y: u8) -> Done
+pub fn enlarge(g: Module, s: State, x: u8, y: u8) -> Done
     requires { ⌜ s .selected ≤ 4 ⌝ }
     ensures { λ r. ⌜ ((font : List ℕ) → Says r (commandOf g font s (Command.Enlarge x y))) ⌝ }
 {
@@ -141,7 +147,7 @@ pub fn enlarge(g: Geometry, s: State, x: u8, y: u8) -> Done
 }
 
 // The cursor set.
-pub fn set_cursor(g: Geometry, s: State, x: u16, y: u16) -> Done
+pub fn set_cursor(g: Module, s: State, x: u16, y: u16) -> Done
     requires { ⌜ s .selected ≤ 4 ⌝ }
     ensures { λ r. ⌜ ((font : List ℕ) → Says r (commandOf g font s (Command.CursorSet x y))) ⌝ }
 {
@@ -154,7 +160,7 @@ pub fn set_cursor(g: Geometry, s: State, x: u16, y: u16) -> Done
 
 // A user window defined.
 pub fn define(
-    g: Geometry,
+    g: Module,
     s: State,
     held: bool,
     a: u8,
@@ -179,7 +185,7 @@ pub fn define(
 }
 
 // A user window cancelled.
-pub fn cancel(g: Geometry, s: State, held: bool, a: u8) -> Done
+pub fn cancel(g: Module, s: State, held: bool, a: u8) -> Done
     requires { ⌜ (held ≡ isHeld (s .hold)) × (1 ≤ a) × (a ≤ 4) ⌝ }
     ensures { λ r. ⌜ ((font : List ℕ) → Says r (commandOf g font s (Command.Cancel a))) ⌝ }
 {

@@ -7,7 +7,7 @@ use Prim.Native.Nat.{ℕ, zero, suc, _+_, _*_, _<_, _≤_}
 use native.Mathlib.Nat.{le-antisymm}
 use native.Mathlib.Omega.{arith}
 use lib.ListN.{length, getD, set}
-use Rattle.paper.specs.declared.Geometry.{Geometry}
+use Rattle.paper.specs.declared.Module.{Module}
 use Rattle.paper.specs.declared.Style.{Style}
 use Rattle.paper.specs.Panel.{address, dot, byteOf}
 use Rattle.paper.specs.Strokes.{rectAt, rectMap}
@@ -23,13 +23,13 @@ use Rattle.cells.specs.Columns.{atRow, mixedAt, mixedColumn}
 -- ---- one byte
 
 -- made of the one at its address, and stored there
-pub mixed-by : (g : Geometry) (y : Style) (x top v a u : ℕ) (m : List ℕ) → top < g .rows → a < length m → a ≡ address g x top
+pub mixed-by : (g : Module) (y : Style) (x top v a u : ℕ) (m : List ℕ) → top < g .rows → a < length m → a ≡ address g x top
     → u ≡ mixedByte y v (getD m a 0) → set m a u ≡ mixedAt g y x top v m
 unfolding mixedAt
 mixed-by g y x top v a u m hy l e k = rw e (rect-one g x top _ m u hy (rw e at l) (rw e at k))
 
 -- of an image
-pub imaged-by : (g : Geometry) (y : Style) (x top v u : ℕ) (m m′ : List ℕ) → v < 256 → Bytes m → u ≡ reversedByte y v
+pub imaged-by : (g : Module) (y : Style) (x top v u : ℕ) (m m′ : List ℕ) → v < 256 → Bytes m → u ≡ reversedByte y v
     → m′ ≡ mixedAt g y x top u m → m′ ≡ imaged g y x top v m
 unfolding mixedAt imaged pennedByte
 imaged-by g y x top v u m m′ hv bytes e p = p ∙ rect-same g (rectAt x top 1 1) _ _ m (λ j r hj hr. same _ (bytes _))
@@ -49,7 +49,7 @@ rows-of : (t : Tall) (r : ℕ) → r < 1 → (t .upper ≡ atRow t r) × (t .low
 rows-of t zero h = (refl, refl)
 rows-of t (suc r) h = absurd (omega arith)
 
-module _ (g : Geometry) (y : Style) (x top : ℕ) (t : Tall) (m : List ℕ) where
+module _ (g : Module) (y : Style) (x top : ℕ) (t : Tall) (m : List ℕ) where
   -- no row of it
   pub column-none : (h : ℕ) → h ≡ 0 → m ≡ mixedColumn g y x top h t m
   unfolding mixedColumn
@@ -77,7 +77,7 @@ module _ (g : Geometry) (y : Style) (x top : ℕ) (t : Tall) (m : List ℕ) wher
 abbrev pub inked : Style → (ℕ → ℕ → ℕ) → ℕ → ℕ → ℕ → ℕ
 inked y cell j r b = pennedByte y (cell j r) b
 
-module _ (g : Geometry) (y : Style) (cell : ℕ → ℕ → ℕ) (left top h : ℕ) (m : List ℕ) where
+module _ (g : Module) (y : Style) (cell : ℕ → ℕ → ℕ) (left top h : ℕ) (m : List ℕ) where
   -- a column more of a cell
   pub cell-turn : (j : ℕ) (t : Tall) (cur cur′ : List ℕ) → cur ≡ rectMap g (rectAt left top j h) (inked y cell) m
       → ((r : ℕ) → r < h → atRow t r ≡ reversedByte y (cell j r)) → cur′ ≡ mixedColumn g y (left + j) top h t cur

@@ -2,22 +2,22 @@
 use mathlib.Core.Path.{_≡_, refl}
 use mathlib.Core.List.{List}
 use Prim.Native.Nat.{ℕ, _+_}
-use Rattle.paper.specs.declared.Geometry.{Geometry}
+use Rattle.paper.specs.declared.Module.{Module}
 use Rattle.paper.specs.declared.Style.{Style}
 use Rattle.paper.specs.declared.View.{View}
 use Rattle.paper.specs.Strokes.{applied}
 use Rattle.paper.specs.Cells.{cellWidth, cellHeight, partOf, drawStroke, blankStroke, imageStroke}
 use Rattle.cells.specs.Drawn.{drawn, blanked, imaged}
 
-module _ (g : Geometry) (m : List ℕ) (y : Style) (v : View) where
+module _ (g : Module) (m : List ℕ) (y : Style) (v : View) where
   -- the cell of a code at the cursor
   pub drawn-stroke : (font : List ℕ) (w code : ℕ)
-      → drawn g font code w y (partOf v (cellWidth w y) (cellHeight y)) m ≡ applied g m (drawStroke font w y code v)
+      → drawn g font code w y (partOf v (cellWidth g w y) (cellHeight y)) m ≡ applied g m (drawStroke g font w y code v)
   unfolding drawn
   drawn-stroke font w code = refl
 
   -- the all-off cell of a wrap
-  pub blanked-stroke : (w : ℕ) → blanked g y (partOf v (cellWidth w y) (cellHeight y)) m ≡ applied g m (blankStroke w y v)
+  pub blanked-stroke : (w : ℕ) → blanked g y (partOf v (cellWidth g w y) (cellHeight y)) m ≡ applied g m (blankStroke g w y v)
   unfolding blanked
   blanked-stroke w = refl
 

@@ -3,10 +3,13 @@ use mathlib.Core.Bool.{cond}
 use mathlib.Core.List.{List}
 use Prim.Native.Nat.{ℕ, _+_}
 use lib.Dec.{eqb}
-use Rattle.paper.specs.declared.Geometry.{Geometry}
+use Rattle.paper.specs.declared.Module.{Module}
 use Rattle.paper.specs.declared.Style.{Style}
+use Rattle.paper.specs.Panel.{glyphByte}
 use Rattle.paper.specs.Strokes.{rectAt, rectMap}
+use Rattle.paper.specs.Cells.{blanksLeft}
 use Rattle.laws_bytes.specs.Bytes.{placedByte, glyphColumn, tallByte, reversedByte, mixedByte, pennedByte}
+use Rattle.cells.specs.declared.Lift.{Lift}
 use Rattle.cells.specs.declared.Tall.{Tall}
 use Rattle.cells.specs.declared.Walk.{Walk}
 
@@ -19,14 +22,14 @@ abbrev pub inkOf : Style → Tall → Tall
 inkOf y t = record { upper = reversedByte y (t .upper); lower = reversedByte y (t .lower) }
 
 -- column k of a code's cell before it is repeated across, the cursor on a row of memory
-unfoldable pub inkColumn : List ℕ → ℕ → ℕ → Style → ℕ → ℕ → Tall
-inkColumn font code w y row k = inkOf y (tallOf (y .down) (placedByte row (glyphColumn font code w k)))
+unfoldable pub inkColumn : Module → List ℕ → ℕ → ℕ → Style → ℕ → ℕ → Tall
+inkColumn g font code w y row k = inkOf y (tallOf (y .down) (placedByte g row (glyphColumn g font code w k)))
 
 -- a walk one column on: the column at hand once more, or the next after it was drawn as often as it is repeated
-unfoldable pub nextOf : List ℕ → ℕ → ℕ → Style → ℕ → Walk → Walk
-nextOf font code w y row s =
+unfoldable pub nextOf : Module → List ℕ → ℕ → ℕ → Style → ℕ → Walk → Walk
+nextOf g font code w y row s =
     cond (eqb (s .times) (y .across))
-    (record { column = inkColumn font code w y row (s .index + 1); index = s .index + 1; times = 1 })
+    (record { column = inkColumn g font code w y row (s .index + 1); index = s .index + 1; times = 1 })
     (record { column = s .column; index = s .index; times = s .times + 1 })
 
 -- the byte of a column on one of its rows
@@ -34,18 +37,37 @@ abbrev pub atRow : Tall → ℕ → ℕ
 atRow t r = cond (eqb r 0) (t .upper) (t .lower)
 
 -- a byte mixed into memory
-unfoldable pub mixedAt : Geometry → Style → ℕ → ℕ → ℕ → List ℕ → List ℕ
+unfoldable pub mixedAt : Module → Style → ℕ → ℕ → ℕ → List ℕ → List ℕ
 mixedAt g y x top v m = rectMap g (rectAt x top 1 1) (λ j r b. mixedByte y v b) m
 
 -- a column mixed into memory
-unfoldable pub mixedColumn : Geometry → Style → ℕ → ℕ → ℕ → Tall → List ℕ → List ℕ
+unfoldable pub mixedColumn : Module → Style → ℕ → ℕ → ℕ → Tall → List ℕ → List ℕ
 mixedColumn g y x top height t m = rectMap g (rectAt x top 1 height) (λ j r b. mixedByte y (atRow t r) b) m
 
 -- column k of a code's cell that is not enlarged, the cursor on a row of memory
-abbrev pub plainByte : List ℕ → ℕ → ℕ → ℕ → ℕ → ℕ
-plainByte font code w row k = placedByte row (glyphColumn font code w k)
+abbrev pub plainByte : Module → List ℕ → ℕ → ℕ → ℕ → ℕ → ℕ
+plainByte g font code w row k = placedByte g row (glyphColumn g font code w k)
 
--- n columns of it mixed into memory, from its column `first` on
-unfoldable pub stamped : Geometry → List ℕ → ℕ → ℕ → Style → ℕ → ℕ → ℕ → ℕ → List ℕ → List ℕ
-stamped g font code w y left top first n m =
-    rectMap g (rectAt left top n 1) (λ j r b. pennedByte y (plainByte font code w top (first + j)) b) m
+-- n blank columns mixed into memory, one row high
+unfoldable pub unlit : Module → Style → ℕ → ℕ → ℕ → List ℕ → List ℕ
+unlit g y left top n m = rectMap g (rectAt left top n 1) (λ j r b. pennedByte y 0 b) m
+
+-- n columns of a code's glyph mixed into memory, not enlarged
+unfoldable pub inlaid : Module → List ℕ → ℕ → Style → ℕ → ℕ → ℕ → List ℕ → List ℕ
+inlaid g font code y left top n m =
+    rectMap g (rectAt left top n 1) (λ j r b. pennedByte y (placedByte g top (glyphByte g font code j)) b) m
+
+-- the blank columns on the right
+abbrev pub blankRight : Module → ℕ
+blankRight g = cond (g .framed) 1 0
+
+-- how many columns a cell has that is not enlarged
+abbrev pub plainWidth : Module → ℕ → ℕ
+plainWidth g w = blanksLeft g w + g .glyph + blankRight g
+
+-- how a glyph's column is placed on a row of memory: framed, one dot down, and up again on row 0
+abbrev pub framedOn : ℕ → Lift
+framedOn row = record { down = 1; up = cond (eqb row 0) 1 0 }
+
+abbrev pub placingOf : Module → ℕ → Lift
+placingOf g row = cond (g .framed) (framedOn row) (record { down = 0; up = 0 })

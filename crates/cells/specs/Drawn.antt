@@ -1,7 +1,7 @@
 -- What the public functions make of the memory: each a name for an expression of the paper. Assumes nothing.
 use mathlib.Core.List.{List}
 use Prim.Native.Nat.{ℕ, _+_, _*_}
-use Rattle.paper.specs.declared.Geometry.{Geometry}
+use Rattle.paper.specs.declared.Module.{Module}
 use Rattle.paper.specs.declared.Rect.{Rect}
 use Rattle.paper.specs.declared.Style.{Style}
 use Rattle.paper.specs.Panel.{dot}
@@ -9,17 +9,17 @@ use Rattle.paper.specs.Strokes.{rectAt, rectMap}
 use Rattle.paper.specs.Cells.{Dots, cellDot, allOff, enlargedDots, penned}
 
 -- a cell's dots, enlarged, through reverse and mixing: the part that lies in a rectangle at the cell's top left
-abbrev pub cellMap : Geometry → Style → Dots → Rect → List ℕ → List ℕ
+abbrev pub cellMap : Module → Style → Dots → Rect → List ℕ → List ℕ
 cellMap g y d q m = rectMap g q (λ j r b. penned y (λ i. enlargedDots y d j (8 * r + i)) b) m
 
 -- the cell of a code
-unfoldable pub drawn : Geometry → List ℕ → ℕ → ℕ → Style → Rect → List ℕ → List ℕ
-drawn g font code w y q m = cellMap g y (cellDot font code w (q .top)) q m
+unfoldable pub drawn : Module → List ℕ → ℕ → ℕ → Style → Rect → List ℕ → List ℕ
+drawn g font code w y q m = cellMap g y (cellDot g font code w (q .top)) q m
 
 -- the all-off cell of a wrap
-unfoldable pub blanked : Geometry → Style → Rect → List ℕ → List ℕ
+unfoldable pub blanked : Module → Style → Rect → List ℕ → List ℕ
 blanked g y q m = cellMap g y allOff q m
 
 -- one byte of an image
-unfoldable pub imaged : Geometry → Style → ℕ → ℕ → ℕ → List ℕ → List ℕ
+unfoldable pub imaged : Module → Style → ℕ → ℕ → ℕ → List ℕ → List ℕ
 imaged g y x top v m = rectMap g (rectAt x top 1 1) (λ j r b. penned y (dot v) b) m

@@ -1,20 +1,22 @@
 // Cells: glyph, blank dot, enlargement, reverse, mixing. Draws one cell, stores one image byte.
 // It may use the paper, its laws and the dots, and it knows nothing of cursors and windows.
 // Inside it works in bytes: a glyph's column is fetched, placed, stretched and reversed once, then mixed in across.
-use paper::Geometry;
+use paper::Module;
 use paper::Rect;
 use paper::Style;
 ghost use mathlib.Core.Path.{_≡_};
-ghost use Prim.Native.Nat.{_+_, _^_, _≤_, _<_};
+ghost use mathlib.Core.Bool.{cond};
+ghost use Prim.Native.Nat.{_+_, _*_, _/_, _^_, _≤_, _<_};
+ghost use lib.Dec.{eqb};
 ghost use lib.ListN.{length};
 ghost use Rattle.paper.specs.Panel.{fontLength};
 ghost use Rattle.paper.specs.Strokes.{rectAt};
-ghost use Rattle.paper.specs.Cells.{cellWidth};
-ghost use Rattle.laws_bytes.specs.Bytes.{double, placedByte, glyphColumn, reversedByte, mixedByte};
+ghost use Rattle.paper.specs.Cells.{blanksLeft, blankColumns, cellWidth};
+ghost use Rattle.laws_bytes.specs.Bytes.{double, glyphColumn, reversedByte, mixedByte};
 ghost use Rattle.laws_memory.specs.Rectangles.{Fits, Within};
 ghost use Rattle.cells.specs.Drawn.{drawn, blanked, imaged};
 ghost use Rattle.cells.specs.Cell.{cellOf};
-ghost use Rattle.cells.specs.Columns.{tallOf, inkColumn, nextOf, mixedAt, mixedColumn, stamped};
+ghost use Rattle.cells.specs.Columns.{tallOf, inkColumn, nextOf, mixedAt, mixedColumn, unlit, inlaid, blankRight, plainWidth, framedOn, placingOf};
 
 // A column of a cell repeated downwards: the bytes of its two rows. A cell one row high has the first alone.
 struct Tall {
@@ -29,12 +31,27 @@ struct Walk {
     times: u8,
 }
 
-// How many columns a code's cell has.
-pub fn cell_width(w: u8, style: Style) -> usize
-    ensures { λ c. ⌜ c ≡ cellWidth w style ⌝ }
+// How many blank columns a frame adds to a glyph: the one on the right, and one on the left if w says so.
+fn frame_columns(w: u8) -> usize
+    ensures { λ n. ⌜ n ≡ cond (eqb w 0) 1 2 ⌝ }
 {
-    let across = style.across as usize;
-    if w == 0 { 6 * across } else { 7 * across }
+    if w == 0 { 1 } else { 2 }
+}
+
+// How many blank columns a code's cell has.
+fn blank_columns(g: Module, w: u8) -> usize
+    ensures { λ n. ⌜ n ≡ blankColumns g w ⌝ }
+{
+    if g.framed { frame_columns(w) } else { 0 }
+}
+
+// How many columns a code's cell has.
+pub fn cell_width(g: Module, w: u8, style: Style) -> usize
+    requires { ⌜ g .glyph ≤ 8 ⌝ }
+    ensures { λ c. ⌜ c ≡ cellWidth g w style ⌝ }
+{
+    let columns = g.glyph + blank_columns(g, w);
+    columns * (style.across as usize)
 }
 
 // A cell as the settings ask for it: its blank columns on the left, its style, and how many columns and rows it has.
@@ -46,38 +63,80 @@ pub struct Cell {
 }
 
 // The cell that the width setting and the style ask for, measured once for a command.
-pub fn cell_of(w: u8, style: Style) -> Cell
-    ensures { λ c. ⌜ c ≡ cellOf w style ⌝ }
+pub fn cell_of(g: Module, w: u8, style: Style) -> Cell
+    requires { ⌜ g .glyph ≤ 8 ⌝ }
+    ensures { λ c. ⌜ c ≡ cellOf g w style ⌝ }
 {
     Cell {
         blanks: w,
         style,
-        columns: cell_width(w, style),
+        columns: cell_width(g, w, style),
         rows: style.down as usize,
     }
 }
 
-// Column k of a code's cell: the glyph's five after w blank ones, then blank.
-fn glyph_column(font: &[u8], code: u8, w: u8, k: usize) -> u8
-    requires { ⌜ (length (now font) ≡ fontLength) × (0x20 ≤ code) ⌝ }
-    ensures { λ b. ⌜ b ≡ glyphColumn (now (font .entry)) code w k ⌝ }
+// How many blank columns stand on the left of a code's glyph.
+fn blanks_left(g: Module, w: u8) -> usize
+    ensures { λ n. ⌜ (n ≡ blanksLeft g w) × (n ≤ w) ⌝ }
 {
-    let blanks = w as usize;
+    if g.framed { w as usize } else { 0 }
+}
+
+// And on the right.
+fn blank_right(g: Module) -> usize
+    ensures { λ n. ⌜ (n ≡ blankRight g) × (n ≤ 1) ⌝ }
+{
+    if g.framed { 1 } else { 0 }
+}
+
+// Column k of a code's cell: the glyph's after the blank ones on its left, then blank.
+fn glyph_column(g: Module, font: &[u8], code: u8, w: u8, k: usize) -> u8
+    requires { ⌜ (length (now font) ≡ fontLength g) × (0x20 ≤ code) ⌝ }
+    ensures { λ b. ⌜ b ≡ glyphColumn g (now (font .entry)) code w k ⌝ }
+{
+    let blanks = blanks_left(g, w);
     if k < blanks {
         return 0;
     }
-    if blanks + 5 <= k {
+    if blanks + g.glyph <= k {
         return 0;
     }
     let c = code as usize;
-    font[5 * (c - 0x20) + (k - blanks)]
+    font[g.glyph * (c - 0x20) + (k - blanks)]
 }
 
-// A glyph's column on a row of memory: the blank dot is below on row 0, above on any other.
-fn placed(row: usize, v: u8) -> u8
-    ensures { λ b. ⌜ b ≡ placedByte row v ⌝ }
+// How the dots of a glyph's column are placed on a row of memory: so many down, and up again. What they leave is blank.
+struct Lift {
+    down: u8,
+    up: u8,
+}
+
+// A framed glyph's: on row 0 the blank dot is below, on any other above.
+fn framed(row: usize) -> Lift
+    ensures { λ p. ⌜ p ≡ framedOn row ⌝ }
 {
-    if row == 0 { v / 2 * 2 } else { v / 2 }
+    if row == 0 {
+        return Lift { down: 1, up: 1 };
+    }
+    Lift { down: 1, up: 0 }
+}
+
+// Any glyph's: one that is not framed stays as it is.
+fn placing(g: Module, row: usize) -> Lift
+    ensures { λ p. ⌜ (p ≡ placingOf g row) × (p .down ≤ 1) × (p .up ≤ p .down) ⌝ }
+{
+    if g.framed {
+        return framed(row);
+    }
+    Lift { down: 0, up: 0 }
+}
+
+// A glyph's column so placed. It has no test, so that a loop of it has none.
+fn placed(p: Lift, v: u8) -> u8
+    requires { ⌜ (p .down ≤ 1) × (p .up ≤ p .down) ⌝ }
+    ensures { λ b. ⌜ b ≡ v / 2 ^ (p .down) * 2 ^ (p .up) ⌝ }
+{
+    (v >> p.down) << p.up
 }
 
 // A byte of four dots, each twice.
@@ -126,11 +185,11 @@ fn mixed(style: Style, v: u8, old: u8) -> u8
 }
 
 // Column k of a code's cell, the cursor on a row of memory: fetched, placed, stretched and reversed.
-fn column(font: &[u8], code: u8, w: u8, style: Style, row: usize, k: usize) -> Tall
-    requires { ⌜ (length (now font) ≡ fontLength) × (0x20 ≤ code) ⌝ }
-    ensures { λ t. ⌜ t ≡ inkColumn (now (font .entry)) code w style row k ⌝ }
+fn column(g: Module, font: &[u8], code: u8, w: u8, style: Style, row: usize, k: usize) -> Tall
+    requires { ⌜ (length (now font) ≡ fontLength g) × (0x20 ≤ code) ⌝ }
+    ensures { λ t. ⌜ t ≡ inkColumn g (now (font .entry)) code w style row k ⌝ }
 {
-    let v = placed(row, glyph_column(font, code, w, k));
+    let v = placed(placing(g, row), glyph_column(g, font, code, w, k));
     let t = stretched(v, style.down);
     Tall {
         upper: reversed(style, t.upper),
@@ -139,16 +198,16 @@ fn column(font: &[u8], code: u8, w: u8, style: Style, row: usize, k: usize) -> T
 }
 
 // One column on: the column at hand once more, or the next after it was drawn as often as it is repeated.
-fn next(font: &[u8], code: u8, w: u8, style: Style, row: usize, walk: Walk) -> Walk
-    requires { ⌜ (length (now font) ≡ fontLength) × (0x20 ≤ code) ⌝ }
+fn next(g: Module, font: &[u8], code: u8, w: u8, style: Style, row: usize, walk: Walk) -> Walk
+    requires { ⌜ (length (now font) ≡ fontLength g) × (0x20 ≤ code) ⌝ }
     requires { ⌜ (walk .times ≤ style .across) × (walk .index + 1 < 2 ^ 64) ⌝ }
-    ensures { λ r. ⌜ r ≡ nextOf (now (font .entry)) code w style row walk ⌝ }
+    ensures { λ r. ⌜ r ≡ nextOf g (now (font .entry)) code w style row walk ⌝ }
 {
     let times = walk.times;
     if times == style.across {
         let k = walk.index + 1;
         return Walk {
-            column: column(font, code, w, style, row, k),
+            column: column(g, font, code, w, style, row, k),
             index: k,
             times: 1,
         };
@@ -160,7 +219,7 @@ fn next(font: &[u8], code: u8, w: u8, style: Style, row: usize, walk: Walk) -> W
 }
 
 // Mixes a byte into memory.
-fn mix(g: Geometry, mem: &mut [u8], style: Style, x: usize, y: usize, v: u8)
+fn mix(g: Module, mem: &mut [u8], style: Style, x: usize, y: usize, v: u8)
     requires { ⌜ Within g (rectAt x y 1 1) × Fits g (now mem) ⌝ }
     ensures { λ _. ⌜ now (mem .exit) ≡ mixedAt g style x y v (now (mem .entry)) ⌝ }
 {
@@ -169,15 +228,7 @@ fn mix(g: Geometry, mem: &mut [u8], style: Style, x: usize, y: usize, v: u8)
 }
 
 // Mixes a column into memory, as many rows of it as the rectangle has.
-fn mix_column(
-    g: Geometry,
-    mem: &mut [u8],
-    style: Style,
-    x: usize,
-    top: usize,
-    height: usize,
-    t: Tall,
-)
+fn mix_column(g: Module, mem: &mut [u8], style: Style, x: usize, top: usize, height: usize, t: Tall)
     requires { ⌜ Within g (rectAt x top 1 height) × Fits g (now mem) × (height ≤ 2) ⌝ }
     ensures { λ _. ⌜ now (mem .exit) ≡ mixedColumn g style x top height t (now (mem .entry)) ⌝ }
 {
@@ -191,32 +242,42 @@ fn mix_column(
     mix(g, mem, style, x, top + 1, t.lower);
 }
 
-// Mixes `count` columns of a code's cell into memory, from its column `first` on, one row high and not enlarged.
-fn stamp_columns(
-    g: Geometry,
+// A blank column, if there is one.
+fn stamp_blank(g: Module, mem: &mut [u8], style: Style, x: usize, y: usize, count: usize)
+    requires { ⌜ Within g (rectAt x y count 1) × Fits g (now mem) × (count ≤ 1) ⌝ }
+    ensures { λ _. ⌜ now (mem .exit) ≡ unlit g style x y count (now (mem .entry)) ⌝ }
+{
+    if 0 < count {
+        mix(g, mem, style, x, y, reversed(style, 0));
+    }
+}
+
+// The columns of a code's glyph, one row high and not enlarged.
+fn stamp_glyph(
+    g: Module,
     mem: &mut [u8],
     font: &[u8],
     code: u8,
-    w: u8,
     style: Style,
     left: usize,
     top: usize,
-    first: usize,
-    count: usize,
 )
-    requires { ⌜ Within g (rectAt left top count 1) × Fits g (now mem) × (first + count < 2 ^ 64) ⌝ }
-    requires { ⌜ (length (now font) ≡ fontLength) × (0x20 ≤ code) ⌝ }
-    ensures { λ _. ⌜ now (mem .exit) ≡ stamped g (now (font .entry)) code w style left top first count (now (mem .entry)) ⌝ }
+    requires { ⌜ Within g (rectAt left top (g .glyph) 1) × Fits g (now mem) ⌝ }
+    requires { ⌜ (length (now font) ≡ fontLength g) × (0x20 ≤ code) ⌝ }
+    ensures { λ _. ⌜ now (mem .exit) ≡ inlaid g (now (font .entry)) code style left top (g .glyph) (now (mem .entry)) ⌝ }
 {
+    let count = g.glyph;
+    let first = count * ((code as usize) - 0x20);
+    let p = placing(g, top);
     for j in 0..count {
-        let v = placed(top, glyph_column(font, code, w, first + j));
+        let v = placed(p, font[first + j]);
         mix(g, mem, style, left + j, top, reversed(style, v));
     }
 }
 
-// A whole cell one row high that is not enlarged: its blank columns, the glyph's five, and the last.
+// A whole cell one row high that is not enlarged: a blank column on the left or none, the glyph's, and one on the right or none.
 fn stamp(
-    g: Geometry,
+    g: Module,
     mem: &mut [u8],
     font: &[u8],
     code: u8,
@@ -225,47 +286,81 @@ fn stamp(
     left: usize,
     top: usize,
 )
-    requires { ⌜ Within g (rectAt left top (w + 6) 1) × Fits g (now mem) ⌝ }
-    requires { ⌜ (length (now font) ≡ fontLength) × (0x20 ≤ code) ⌝ }
+    requires { ⌜ Within g (rectAt left top (plainWidth g w) 1) × Fits g (now mem) ⌝ }
+    requires { ⌜ (length (now font) ≡ fontLength g) × (0x20 ≤ code) × (w ≤ 1) ⌝ }
     requires { ⌜ (style .across ≡ 1) × (style .down ≡ 1) ⌝ }
-    ensures { λ _. ⌜ now (mem .exit) ≡ drawn g (now (font .entry)) code w style (rectAt left top (w + 6) 1) (now (mem .entry)) ⌝ }
+    ensures { λ _. ⌜ now (mem .exit) ≡ drawn g (now (font .entry)) code w style (rectAt left top (plainWidth g w) 1) (now (mem .entry)) ⌝ }
 {
-    let blanks = w as usize;
-    let last = blanks + 5;
-    stamp_columns(g, mem, font, code, w, style, left, top, 0, blanks);
-    stamp_columns(g, mem, font, code, w, style, left + blanks, top, blanks, 5);
-    stamp_columns(g, mem, font, code, w, style, left + last, top, last, 1);
+    let blanks = blanks_left(g, w);
+    let last = blanks + g.glyph;
+    stamp_blank(g, mem, style, left, top, blanks);
+    stamp_glyph(g, mem, font, code, style, left + blanks, top);
+    stamp_blank(g, mem, style, left + last, top, blank_right(g));
 }
 
 // A cell column by column, each repeated across and down.
-fn walk_over(g: Geometry, mem: &mut [u8], font: &[u8], code: u8, w: u8, style: Style, r: Rect)
+fn walk_over(g: Module, mem: &mut [u8], font: &[u8], code: u8, w: u8, style: Style, r: Rect)
     requires { ⌜ Within g r × Fits g (now mem) ⌝ }
-    requires { ⌜ (length (now font) ≡ fontLength) × (0x20 ≤ code) ⌝ }
+    requires { ⌜ (length (now font) ≡ fontLength g) × (0x20 ≤ code) ⌝ }
     requires { ⌜ (1 ≤ style .across) × (style .down ≤ 2) × (r .height ≤ style .down) ⌝ }
     ensures { λ _. ⌜ now (mem .exit) ≡ drawn g (now (font .entry)) code w style r (now (mem .entry)) ⌝ }
 {
     let top = r.top;
     let mut walk = Walk {
-        column: column(font, code, w, style, top, 0),
+        column: column(g, font, code, w, style, top, 0),
         index: 0,
         times: 0,
     };
     for j in 0..r.width {
-        walk = next(font, code, w, style, top, walk);
+        walk = next(g, font, code, w, style, top, walk);
         let t = walk.column;
         mix_column(g, mem, style, r.left + j, top, r.height, t);
     }
 }
 
+// A whole cell at (left, top). It is small, so that a loop over characters has it in it.
+pub fn draw_whole(
+    g: Module,
+    mem: &mut [u8],
+    font: &[u8],
+    code: u8,
+    cell: Cell,
+    left: usize,
+    top: usize,
+)
+    requires { ⌜ Within g (rectAt left top (cell .columns) (cell .rows)) × Fits g (now mem) ⌝ }
+    requires { ⌜ (length (now font) ≡ fontLength g) × (0x20 ≤ code) ⌝ }
+    requires { ⌜ (1 ≤ cell .style .across) × (cell .style .down ≤ 2) × (cell .rows ≡ cell .style .down) ⌝ }
+    ensures { λ _. ⌜ now (mem .exit) ≡ drawn g (now (font .entry)) code (cell .blanks) (cell .style)
+        (rectAt left top (cell .columns) (cell .rows)) (now (mem .entry)) ⌝ }
+{
+    let w = cell.blanks;
+    let style = cell.style;
+    let whole = blanks_left(g, w) + g.glyph + blank_right(g);
+    let plain = (style.across == 1) & (style.down == 1);
+    if plain & (cell.columns == whole) & (w <= 1) {
+        stamp(g, mem, font, code, w, style, left, top);
+        return;
+    }
+    let r = Rect {
+        left,
+        top,
+        width: cell.columns,
+        height: cell.rows,
+    };
+    walk_over(g, mem, font, code, w, style, r);
+}
+
 // The cell of a code at a rectangle's top left: the part of it that lies in the rectangle.
-pub fn draw(g: Geometry, mem: &mut [u8], font: &[u8], code: u8, w: u8, style: Style, r: Rect)
+pub fn draw(g: Module, mem: &mut [u8], font: &[u8], code: u8, w: u8, style: Style, r: Rect)
     requires { ⌜ Within g r × Fits g (now mem) ⌝ }
-    requires { ⌜ (length (now font) ≡ fontLength) × (0x20 ≤ code) ⌝ }
+    requires { ⌜ (length (now font) ≡ fontLength g) × (0x20 ≤ code) ⌝ }
     requires { ⌜ (1 ≤ style .across) × (style .down ≤ 2) × (r .height ≤ style .down) ⌝ }
     ensures { λ _. ⌜ now (mem .exit) ≡ drawn g (now (font .entry)) code w style r (now (mem .entry)) ⌝ }
 {
-    let whole = (w as usize) + 6;
-    if (style.across == 1) & (style.down == 1) & (r.height == 1) & (r.width == whole) {
+    let whole = blanks_left(g, w) + g.glyph + blank_right(g);
+    let plain = (style.across == 1) & (style.down == 1) & (r.height == 1);
+    if plain & (r.width == whole) & (w <= 1) {
         stamp(g, mem, font, code, w, style, r.left, r.top);
         return;
     }
@@ -273,7 +368,7 @@ pub fn draw(g: Geometry, mem: &mut [u8], font: &[u8], code: u8, w: u8, style: St
 }
 
 // The all-off cell of a wrap at a rectangle's top left: the part of it that lies in the rectangle.
-pub fn blank(g: Geometry, mem: &mut [u8], style: Style, r: Rect)
+pub fn blank(g: Module, mem: &mut [u8], style: Style, r: Rect)
     requires { ⌜ Within g r × Fits g (now mem) × (r .height ≤ 2) ⌝ }
     ensures { λ _. ⌜ now (mem .exit) ≡ blanked g style r (now (mem .entry)) ⌝ }
 {
@@ -285,7 +380,7 @@ pub fn blank(g: Geometry, mem: &mut [u8], style: Style, r: Rect)
 }
 
 // One byte of an image.
-pub fn store(g: Geometry, mem: &mut [u8], style: Style, x: usize, y: usize, v: u8)
+pub fn store(g: Module, mem: &mut [u8], style: Style, x: usize, y: usize, v: u8)
     requires { ⌜ Within g (rectAt x y 1 1) × Fits g (now mem) ⌝ }
     ensures { λ _. ⌜ now (mem .exit) ≡ imaged g style x y v (now (mem .entry)) ⌝ }
 {

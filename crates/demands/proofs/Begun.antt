@@ -5,7 +5,7 @@ use Prim.Native.Nat.{ℕ}
 use lib.ListN.{length}
 use Rattle.paper.specs.declared.Refusal.the-variants.{Accepted}
 use Rattle.paper.specs.declared.State.{State}
-use Rattle.paper.specs.Panel.{panel}
+use Rattle.paper.specs.Panel.{panel, memoryLength, fontLength}
 use Rattle.paper.specs.Strokes.{applyAll, grown, grownBy}
 use Rattle.paper.specs.Numbers.{refusalNumber}
 use Rattle.paper.specs.Reading.{readFirst, readUnit, readGroup, readWindows, readWindowB, readWord, readOf}
@@ -41,17 +41,17 @@ module _ (font : List ℕ) where
   holdable = refl
 
   -- the base window is selected, and no setting is changed
-  pub as-initial : (withWindow font .selected ≡ 0) × (withWindow font .settings ≡ initialSettings)
+  pub as-initial : (withWindow font .selected ≡ 0) × (withWindow font .settings ≡ initialSettings panel)
   unfolding panel grown grownBy readFirst readUnit readGroup readWindows readWindowB readWord readOf initialState fits asks isHeld carriedOut commandOf takeOf byteMeans
   as-initial = (refl, refl)
 
 -- the start is not refused
-pub starts : (m : List ℕ) → length m ≡ 1024
+pub starts : (m : List ℕ) → length m ≡ memoryLength panel
     → (startCall panel m .answer .state ≡ started panel) × (startCall panel m .mem ≡ erased m)
 unfolding panel
 starts m memory = let a = start-answers panel m in a .taken (a .number-0 .1 memory)
 
-module _ (font m : List ℕ) (fonts : length font ≡ 1120) (memory : length m ≡ 1024) where
+module _ (font m : List ℕ) (fonts : length font ≡ fontLength panel) (memory : length m ≡ memoryLength panel) where
   abbrev begins : Feeding
   begins = fedNothing Accepted (started panel) (erased m)
 
@@ -67,7 +67,7 @@ module _ (font m : List ℕ) (fonts : length font ≡ 1120) (memory : length m �
   pub window-state : windowFed font m .answer .state ≡ withWindow font
   window-state = ap (λ (f : Feeding). f .answer .state) runs ∙ run-state panel font begins windowOne
 
-  pub window-memory : length (windowFed font m .mem) ≡ 1024
+  pub window-memory : length (windowFed font m .mem) ≡ memoryLength panel
   window-memory =
       ap (λ (f : Feeding). length (f .mem)) runs
       ∙ length-run panel font begins windowOne

@@ -8,7 +8,7 @@ use native.Mathlib.Omega.{arith}
 use lib.Dec.{eqb}
 use lib.ListN.{length}
 use borrow.Author.Tests.{eqb-false}
-use Rattle.paper.specs.declared.Geometry.{Geometry}
+use Rattle.paper.specs.declared.Module.{Module}
 use Rattle.paper.specs.declared.Refusal.{Refusal}
 use Rattle.paper.specs.declared.Refusal.the-variants.{Accepted, MemoryLength, FontLength, GlassLength, NoSuchWindow, UndefinedWindow, HeldAlready, NotHeld, BrokenState}
 use Rattle.paper.specs.declared.State.{State}
@@ -82,7 +82,7 @@ last i n = eqb-false 0 i n
 
 -- ---- start
 
-module _ (g : Geometry) (m : List ℕ) where
+module _ (g : Module) (m : List ℕ) where
   start-refusal : startCall g m .answer .refusal ≡ startRefusal g m
   unfolding startCall
   start-refusal = answers-by (λ (q : Starting). q .answer .refusal) (startRefusal g m) _ _ refl refl
@@ -154,7 +154,7 @@ module _ (n : ℕ) (m : List ℕ) (k : ℕ) (l : List ℕ) (ok : Bool) (w : Refu
 
 -- ---- feed
 
-module _ (g : Geometry) (font : List ℕ) (s : State) (m bytes : List ℕ) where
+module _ (g : Module) (font : List ℕ) (s : State) (m bytes : List ℕ) where
   feed-refusal : feedCall g font s m bytes .answer .refusal ≡ feedRefusal g font s m
   unfolding feedCall
   feed-refusal =
@@ -168,11 +168,11 @@ module _ (g : Geometry) (font : List ℕ) (s : State) (m bytes : List ℕ) where
       let n = memoryLength g in
       let ok = accepted g s in
       record {
-        listed = rw r (lent-listed n m fontLength font ok FontLength (0 ∷ 1 ∷ 2 ∷ 8 ∷ []) refl refl refl refl);
-        number-1 = says r 1 (lent-1 n m fontLength font ok FontLength refl);
-        number-2 = says r 2 (lent-w n m fontLength font ok FontLength 2 refl refl refl refl);
-        number-8 = says r 8 (lent-8 n m fontLength font ok FontLength refl);
-        number-0 = says r 0 (lent-0 n m fontLength font ok FontLength refl);
+        listed = rw r (lent-listed n m (fontLength g) font ok FontLength (0 ∷ 1 ∷ 2 ∷ 8 ∷ []) refl refl refl refl);
+        number-1 = says r 1 (lent-1 n m (fontLength g) font ok FontLength refl);
+        number-2 = says r 2 (lent-w n m (fontLength g) font ok FontLength 2 refl refl refl refl);
+        number-8 = says r 8 (lent-8 n m (fontLength g) font ok FontLength refl);
+        number-0 = says r 0 (lent-0 n m (fontLength g) font ok FontLength refl);
         refused = λ e.
             rw (is-refused (feedRefusal g font s m) (rw r at e))
             (record { state = refl; mem = refl; carried = refl; answered = refl; outcome = refl });
@@ -180,7 +180,7 @@ module _ (g : Geometry) (font : List ℕ) (s : State) (m bytes : List ℕ) where
 
 -- ---- refresh
 
-module _ (g : Geometry) (s : State) (m glass : List ℕ) where
+module _ (g : Module) (s : State) (m glass : List ℕ) where
   refresh-refusal : refreshCall g s m glass .answer .refusal ≡ refreshRefusal g s m glass
   unfolding refreshCall
   refresh-refusal =
@@ -205,7 +205,7 @@ module _ (g : Geometry) (s : State) (m glass : List ℕ) where
 
 -- ---- hold
 
-module _ (g : Geometry) (s : State) (k : ℕ) where
+module _ (g : Module) (s : State) (k : ℕ) where
   hold-refusal : holdCall g s k .refusal ≡ holdRefusal g s k
   unfolding holdCall
   hold-refusal = answers-by (λ (q : Answer). q .refusal) (holdRefusal g s k) _ _ refl refl
@@ -264,7 +264,7 @@ module _ (g : Geometry) (s : State) (k : ℕ) where
 
 -- ---- release
 
-module _ (g : Geometry) (s : State) where
+module _ (g : Module) (s : State) where
   release-refusal : releaseCall g s .refusal ≡ releaseRefusal g s
   unfolding releaseCall
   release-refusal = answers-by (λ (q : Answer). q .refusal) (releaseRefusal g s) _ _ refl refl

@@ -7,7 +7,7 @@ use native.Mathlib.Nat.{add-zero, add-suc, mul-zero, mul-suc}
 use native.Mathlib.Omega.{arith}
 use lib.ListN.{length, getD, take}
 use lib.Seq.{take-suc, take-all}
-use Rattle.paper.specs.declared.Geometry.{Geometry}
+use Rattle.paper.specs.declared.Module.{Module}
 use Rattle.paper.specs.declared.Span.{Span}
 use Rattle.paper.specs.Panel.{glassLength}
 use Rattle.paper.specs.Strokes.{noSpan, spanHolds, shown, shownAll}
@@ -52,7 +52,7 @@ none-below [] = refl
 none-below (p ∷ ps) = omega (arith, none-below ps)
 
 -- all visible columns
-all-shown : (g : Geometry) (ps : List Span) → allBelow (g .visible) ps ≡ shownAll g ps
+all-shown : (g : Module) (ps : List Span) → allBelow (g .visible) ps ≡ shownAll g ps
 unfolding allBelow shown
 all-shown g [] = refl
 all-shown g (p ∷ ps) = ap (λ (n : ℕ). below (g .visible) p + n) (all-shown g ps)
@@ -64,7 +64,7 @@ unfolding many
 many-append v [] qs = omega arith
 many-append v (p ∷ ps) qs = omega (arith, many-append v ps qs)
 
-module _ (g : Geometry) (ps : List Span) (rows : length ps ≡ g .rows) where
+module _ (g : Module) (ps : List Span) (rows : length ps ≡ g .rows) where
   -- its first k rows
   column-spanned : (v k : ℕ) → k ≤ g .rows
       → spannedBelow g ps (g .rows * v + k) ≡ spannedBelow g ps (g .rows * v) + many v (take k ps)

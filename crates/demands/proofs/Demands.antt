@@ -9,7 +9,7 @@ use lib.ListN.{length}
 use Rattle.paper.specs.declared.Settings.{Settings}
 use Rattle.paper.specs.declared.Half.the-variants.{Nothing}
 use Rattle.paper.specs.declared.State.{State}
-use Rattle.paper.specs.Panel.{panel}
+use Rattle.paper.specs.Panel.{panel, memoryLength, glassLength, fontLength}
 use Rattle.paper.specs.Numbers.{outcomeNumber}
 use Rattle.paper.specs.Reading.{readOf}
 use Rattle.paper.specs.Settings.{initialState, withHalf}
@@ -55,7 +55,7 @@ module _ (font : List ℕ) (s : State) where
   pub demand-2-outcome : (b : ℕ) → ByteAnswers panel (withHalf s Nothing) (readOf panel (s .half) b) (byteMeans panel font s b)
   demand-2-outcome = byte-answers panel font s
 
-  module _ (m : List ℕ) (memory : length m ≡ 1024) (fonts : length font ≡ 1120) (ok : accepted panel s ≡ true) where
+  module _ (m : List ℕ) (memory : length m ≡ memoryLength panel) (fonts : length font ≡ fontLength panel) (ok : accepted panel s ≡ true) where
     -- a byte fed by itself shows all that document 01 has it come to
     pub demand-2-byte : (b : ℕ) → ByteFed panel m (byteMeans panel font s b) (feedCall panel font s m (b ∷ []))
     unfolding panel
@@ -94,15 +94,15 @@ pub demand-3-feed : (font : List ℕ) (s : State) (m glass bytes : List ℕ) →
 demand-3-feed = feed-in-step panel panel-usable
 
 -- a hold that is not refused, and then a refresh
-pub demand-3-hold : (font : List ℕ) (s : State) (k : ℕ) (m glass : List ℕ) → length font ≡ 1120 → length m ≡ 1024
-    → length glass ≡ 224 → Synced panel m glass (s .spans) → holdNumber panel s k ≡ 0
+pub demand-3-hold : (font : List ℕ) (s : State) (k : ℕ) (m glass : List ℕ) → length font ≡ fontLength panel → length m ≡ memoryLength panel
+    → length glass ≡ glassLength panel → Synced panel m glass (s .spans) → holdNumber panel s k ≡ 0
     → let r = refreshCall panel (holdCall panel s k .state) m glass in
     InStep panel font k (s .selected) (s .settings) (r .answer .state) m (r .glass)
 unfolding panel
 demand-3-hold = holds-in-step panel panel-usable
 
 -- so a panel that is started, fed a define, held and refreshed is in step, whatever is lent
-pub demand-3-begun : (font m glass : List ℕ) → length font ≡ 1120 → length m ≡ 1024 → length glass ≡ 224
+pub demand-3-begun : (font m glass : List ℕ) → length font ≡ fontLength panel → length m ≡ memoryLength panel → length glass ≡ glassLength panel
     → BegunInStep font m glass
 demand-3-begun font m glass fonts memory size =
     let a = startCall panel m in
@@ -121,4 +121,5 @@ demand-3-begun font m glass fonts memory size =
 
 -- with nothing assumed
 pub demand-3-met : BegunInStep someFont someMemory someGlass
+unfolding panel
 demand-3-met = demand-3-begun someFont someMemory someGlass refl refl refl

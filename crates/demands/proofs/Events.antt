@@ -8,7 +8,7 @@ use native.Mathlib.Omega.{arith}
 use lib.ListN.{length, getD, replicate, length-replicate}
 use lib.Seq.{length-take-le, getD-take}
 use borrow.Author.Tests.{eq-eqb}
-use Rattle.paper.specs.declared.Geometry.{Geometry}
+use Rattle.paper.specs.declared.Module.{Module}
 use Rattle.paper.specs.declared.Settings.{Settings}
 use Rattle.paper.specs.declared.Span.{Span}
 use Rattle.paper.specs.declared.Refusal.{Refusal}
@@ -55,7 +55,7 @@ module _ {S A : Type 0} where
 
 -- ---- refreshes
 
-module _ (g : Geometry) where
+module _ (g : Module) where
   -- a refresh that is not refused
   refresh-runs : (s : State) (m glass : List ℕ) → length m ≡ memoryLength g → length glass ≡ glassLength g → accepted g s ≡ true
       → refreshCall g s m glass ≡ refreshing Accepted (emptied g s) (shownAll g (s .spans)) (refreshed g m (s .spans) glass)
@@ -99,11 +99,11 @@ module _ (g : Geometry) where
     owed-most (refresh ∷ es) q since (suc i) = owed-most es q [] i
 
 -- the glass is no larger than the memory
-glass-fits : (g : Geometry) → Usable g → (m : List ℕ) → length m ≡ memoryLength g → glassLength g ≤ length m
+glass-fits : (g : Module) → Usable g → (m : List ℕ) → length m ≡ memoryLength g → glassLength g ≤ length m
 glass-fits g u m l = omega (arith, l, mul-le-mul-left (g .rows) (u .visible-part))
 
 -- a glass that equals the visible memory is in step with it, whatever the spans
-shows-synced : (g : Geometry) (m glass : List ℕ) (ps : List Span) → glass ≡ visible g m → Synced g m glass ps
+shows-synced : (g : Module) (m glass : List ℕ) (ps : List Span) → glass ≡ visible g m → Synced g m glass ps
 shows-synced g m glass ps e a l out = ap (λ (n : List ℕ). getD n a 0) e ∙ getD-take (glassLength g) m a 0 l
 
 -- the spans are nothing of a guest's
@@ -125,12 +125,12 @@ guest-spans k back v s r ps a =
 -- ---- the induction
 
 -- the state as the calls have it: the joined bytes' state, but its spans hold only what was written since the last refresh
-abbrev called : Geometry → State → List Stroke → State
+abbrev called : Module → State → List Stroke → State
 called g q since = withSpans q (markAll (noSpans g) since)
 
 -- what stands after the events: p as the calls have it, one as the joined bytes have it from state q, `since` being what was
 -- written between the last refresh and the first event
-record Serves (g : Geometry) (font : List ℕ) (q : State) (since : List Stroke) (events : List Event) (p : Play State Refusal) (one : Feeding)
+record Serves (g : Module) (font : List ℕ) (q : State) (since : List Stroke) (events : List Event) (p : Play State Refusal) (one : Feeding)
     : Type 0 where
   refusals : p .answers ≡ replicate (length events) Accepted
   mem : p .mem ≡ one .mem
@@ -143,7 +143,7 @@ record Serves (g : Geometry) (font : List ℕ) (q : State) (since : List Stroke)
   size : length (p .glass) ≡ glassLength g
   accepts : accepted g (p .state) ≡ true
 
-module _ (g : Geometry) (u : Usable g) (font : List ℕ) (fonts : length font ≡ fontLength) where
+module _ (g : Module) (u : Usable g) (font : List ℕ) (fonts : length font ≡ fontLength g) where
   module _ (q : State) (m bs : List ℕ) (l : length m ≡ memoryLength g) (h : accepted g q ≡ true) where
     -- a piece of the joined bytes
     fed-runs : feedCall g font q m bs ≡ run g font (fedNothing Accepted q m) bs
@@ -248,7 +248,7 @@ module _ (g : Geometry) (u : Usable g) (font : List ℕ) (fonts : length font �
 
 -- ---- the demand
 
-module _ (g : Geometry) (u : Usable g) (font : List ℕ) (k back : ℕ) (v : Settings) (s : State) (m glass : List ℕ)
+module _ (g : Module) (u : Usable g) (font : List ℕ) (k back : ℕ) (v : Settings) (s : State) (m glass : List ℕ)
     (i : InStep g font k back v s m glass) (events : List Event) where
   abbrev one : Feeding
   one = feedCall g font s m (joined events)
@@ -306,7 +306,7 @@ module _ (g : Geometry) (u : Usable g) (font : List ℕ) (k back : ℕ) (v : Set
         sum = ap (λ (r : Refreshing). r .answer .moved) next-refresh;
       }
 
-module _ (g : Geometry) (u : Usable g) (font : List ℕ) (k back : ℕ) (v : Settings) (s : State) (m glass : List ℕ)
+module _ (g : Module) (u : Usable g) (font : List ℕ) (k back : ℕ) (v : Settings) (s : State) (m glass : List ℕ)
     (i : InStep g font k back v s m glass) where
   pub served : (events : List Event)
       → Served g font k back v s m glass events (play g font s m glass events) (feedCall g font s m (joined events))
@@ -338,7 +338,7 @@ module _ (g : Geometry) (u : Usable g) (font : List ℕ) (k back : ℕ) (v : Set
 -- ---- how it is begun
 
 -- a feed, refused or not, keeps a glass in step that shows memory wherever no span is
-pub feed-in-step : (g : Geometry) → Usable g → (font : List ℕ) (s : State) (m glass bytes : List ℕ) → Sized g s
+pub feed-in-step : (g : Module) → Usable g → (font : List ℕ) (s : State) (m glass bytes : List ℕ) → Sized g s
     → Synced g m glass (s .spans)
     → let f = feedCall g font s m bytes in Synced g (f .mem) glass (f .answer .state .spans)
 unfolding feedCall
@@ -353,8 +353,8 @@ feed-in-step g u font s m glass bytes sized synced =
     (λ _. synced)
 
 -- a hold that is not refused, and then a refresh
-pub holds-in-step : (g : Geometry) → Usable g → (font : List ℕ) (s : State) (k : ℕ) (m glass : List ℕ)
-    → length font ≡ fontLength → length m ≡ memoryLength g → length glass ≡ glassLength g → Synced g m glass (s .spans)
+pub holds-in-step : (g : Module) → Usable g → (font : List ℕ) (s : State) (k : ℕ) (m glass : List ℕ)
+    → length font ≡ fontLength g → length m ≡ memoryLength g → length glass ≡ glassLength g → Synced g m glass (s .spans)
     → holdNumber g s k ≡ 0
     → let r = refreshCall g (holdCall g s k .state) m glass in
     InStep g font k (s .selected) (s .settings) (r .answer .state) m (r .glass)

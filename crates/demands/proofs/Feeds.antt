@@ -5,7 +5,7 @@ use mathlib.Core.List.{List, [], _∷_}
 use Prim.Native.Nat.{ℕ, _≤_}
 use native.Mathlib.Nat.{zero-add}
 use lib.ListN.{length}
-use Rattle.paper.specs.declared.Geometry.{Geometry}
+use Rattle.paper.specs.declared.Module.{Module}
 use Rattle.paper.specs.declared.Refusal.the-variants.{Accepted}
 use Rattle.paper.specs.declared.Outcome.{Outcome}
 use Rattle.paper.specs.declared.State.{State}
@@ -25,7 +25,7 @@ use Rattle.laws_state.proofs.Joined.{feed-runs, run-refusal}
 use Rattle.demands.specs.Demands.{ByteFed, OnlyAnswered, fedOnce, fedSingly, PieceFed}
 use Rattle.demands.proofs.Outcomes.{byte-answers}
 
-module _ (g : Geometry) (font : List ℕ) where
+module _ (g : Module) (font : List ℕ) where
   module _ (s : State) (m : List ℕ) (taken : feedRefusal g font s m ≡ Accepted) where
     -- one byte
     pub byte-fed : (b : ℕ) → ByteFed g m (byteMeans g font s b) (feedCall g font s m (b ∷ []))
@@ -72,7 +72,7 @@ module _ (g : Geometry) (font : List ℕ) where
 
   -- every byte of a piece
   singly : Usable g → (f : Feeding) (bs : List ℕ) → f .answer .refusal ≡ Accepted → length (f .mem) ≡ memoryLength g
-      → length font ≡ fontLength → accepted g (f .answer .state) ≡ true → run g font f bs ≡ fedSingly g font f bs
+      → length font ≡ fontLength g → accepted g (f .answer .state) ≡ true → run g font f bs ≡ fedSingly g font f bs
   singly u f [] e l k h = refl
   singly u f (b ∷ bs) e l k h =
       let taken = feed-taken g font (f .answer .state) (f .mem) l k h in
@@ -81,7 +81,7 @@ module _ (g : Geometry) (font : List ℕ) where
       ∙ sym (ap (λ (q : Feeding). fedSingly g font q bs) (once f b e taken))
 
   -- the piece
-  pub piece-fed : Usable g → (s : State) (m bytes : List ℕ) → length m ≡ memoryLength g → length font ≡ fontLength
+  pub piece-fed : Usable g → (s : State) (m bytes : List ℕ) → length m ≡ memoryLength g → length font ≡ fontLength g
       → accepted g s ≡ true → PieceFed g font s m bytes
   piece-fed u s m bytes l k h =
       let runs = feed-runs g font s m bytes (feed-taken g font s m l k h) in

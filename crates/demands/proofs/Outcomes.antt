@@ -7,7 +7,7 @@ use Prim.Native.Nat.{ℕ, _≤_}
 use native.Mathlib.Omega.{arith}
 use lib.Dec.{eqb}
 use borrow.Author.Tests.{eqb-false}
-use Rattle.paper.specs.declared.Geometry.{Geometry}
+use Rattle.paper.specs.declared.Module.{Module}
 use Rattle.paper.specs.declared.Half.the-variants.{Nothing}
 use Rattle.paper.specs.declared.Command.{Command}
 use Rattle.paper.specs.declared.Command.the-variants.{Character, Back, Tab, LineFeed, Home, Clear, Return, Select, Initialise, Mode, Set, Enlarge, CursorSet, Define, Cancel, Uncarried}
@@ -45,7 +45,7 @@ number-range NotDefined = omega arith
 -- ---- a command read whole
 
 -- what is carried out counts as carried out
-carried-10 : (g : Geometry) (font : List ℕ) (s : State) (c : Command) → number (carriedOut g font s c) ≡ 10
+carried-10 : (g : Module) (font : List ℕ) (s : State) (c : Command) → number (carriedOut g font s c) ≡ 10
 unfolding carriedOut outcomeNumber
 carried-10 g font s (Character b) = refl
 carried-10 g font s Back = refl
@@ -65,7 +65,7 @@ carried-10 g font s (Cancel a) = refl
 carried-10 g font s Uncarried = refl
 
 -- what a command read whole is answered
-record CommandAnswers (g : Geometry) (s : State) (c : Command) (t : Meaning) : Type 0 where
+record CommandAnswers (g : Module) (s : State) (c : Command) (t : Meaning) : Type 0 where
   number-10 : (number t ≡ 10) ↔ After17 s (askedOf g s c) (askedOf g s c .tooLarge ≡ false)
   number-11 : (number t ≡ 11) ↔ After15 s (askedOf g s c) (askedOf g s c .outOfDomain ≡ true)
   number-14 : (number t ≡ 14) ↔ (askedOf g s c .notCarried ≡ true)
@@ -77,7 +77,7 @@ record CommandAnswers (g : Geometry) (s : State) (c : Command) (t : Meaning) : T
   no-13 : number t ≢ 13
   unchanged : 11 ≤ number t → (t .state ≡ s) × (t .strokes ≡ [])
 
-module _ (g : Geometry) (font : List ℕ) (s : State) (c : Command) where
+module _ (g : Module) (font : List ℕ) (s : State) (c : Command) where
   -- the answers from a row on
   abbrev from-16 : Meaning
   from-16 = cond (askedOf g s c .tooLarge) (answers s TooLarge) (carriedOut g font s c)
@@ -206,7 +206,7 @@ unlike : (r q : Reading) → kind r ≢ kind q → r ≢ q
 unlike r q n e = n (ap kind e)
 
 -- one that is no command has no command's number
-module _ (g : Geometry) (s : State) (r : Reading) (t : Meaning) (other : kind r ≢ 1) where
+module _ (g : Module) (s : State) (r : Reading) (t : Meaning) (other : kind r ≢ 1) where
   not-command : {A : Type 0} {P : Command → Type 0} → (A → ⊥) → A ↔ ((c : Command) × (r ≡ Whole c) × P c)
   not-command n = neither n (λ x. other (ap kind (x .1)))
 
@@ -231,13 +231,13 @@ module _ (g : Geometry) (s : State) (r : Reading) (t : Meaning) (other : kind r 
       }
 
 -- one that is a command has the command's
-a-command : (g : Geometry) (s : State) (c : Command) {A : Type 0} (P : Asked → Type 0) → (A ↔ P (askedOf g s c))
+a-command : (g : Module) (s : State) (c : Command) {A : Type 0} (P : Asked → Type 0) → (A ↔ P (askedOf g s c))
     → A ↔ IsCommand g s (Whole c) P
 a-command g s c P h =
     (λ e. (c, refl, h .0 e), λ x. h .1 (subst (λ (q : Command). P (askedOf g s q)) (sym (ap commandIn (x .1))) (x .2)))
 
 -- whatever is read
-reading-answers : (g : Geometry) (font : List ℕ) (s : State) (r : Reading)
+reading-answers : (g : Module) (font : List ℕ) (s : State) (r : Reading)
     → ByteAnswers g (withHalf s Nothing) r (takeOf g font s r)
 unfolding takeOf outcomeNumber
 reading-answers g font s (More p) =
@@ -281,7 +281,7 @@ reading-answers g font s UnknownCode =
     (neither (omega arith) false≢true) (neither (omega arith) (unlike UnknownCode Cancels (omega arith)))
     (λ _. refl, λ _. refl) (λ l. (refl, refl))
 
-module _ (g : Geometry) (font : List ℕ) where
+module _ (g : Module) (font : List ℕ) where
   -- every byte
   pub byte-answers : (s : State) (b : ℕ) → ByteAnswers g (withHalf s Nothing) (readOf g (s .half) b) (byteMeans g font s b)
   unfolding byteMeans

@@ -1,5 +1,5 @@
 -- What the theorems assume can be had: for each premise that a theorem for users takes, one panel or list that meets it, with
--- nothing assumed in turn. The panel is marked case 11's. A geometry is `Usable`: kept/proofs/Views `panel-usable`. Assumes nothing.
+-- nothing assumed in turn. The panel is marked case 11's. A module is `Usable`: laws_state/proofs/Views `panel-usable`. Assumes nothing.
 use mathlib.Core.Path.{_≡_, refl}
 use mathlib.Core.Bool.{true}
 use mathlib.Core.List.{[], _∷_}
@@ -8,7 +8,7 @@ use native.Mathlib.Omega.{arith}
 use lib.ListN.{length, getD, replicate}
 use Rattle.paper.specs.declared.Word.the-variants.{CursorX}
 use Rattle.paper.specs.declared.Half.the-variants.{Low, ImageData}
-use Rattle.paper.specs.Panel.{panel, glassLength}
+use Rattle.paper.specs.Panel.{panel, glassLength, memoryLength, fontLength}
 use Rattle.paper.specs.Strokes.{noSpan, spanHolds, grown, grownBy}
 use Rattle.paper.specs.Numbers.{outcomeNumber}
 use Rattle.paper.specs.Reading.{readFirst, readUnit, readOf}
@@ -27,8 +27,9 @@ use Rattle.demands.specs.Demands.{holdNumber, windowFed, windowHeld, som
 use Rattle.demands.proofs.Begun.{holdable, window-state}
 use Rattle.demands.proofs.Demands.{demand-2-outcome, demand-2-byte, demand-3-start, demand-3-met}
 
--- demand-2-byte, demand-2-piece; kept/proofs/Accepted accepted-kept, run-accepted, and Calls feed-keeps to refresh-keeps
-pub fed-met : (length someMemory ≡ 1024) × (length someFont ≡ 1120) × (accepted panel (started panel) ≡ true)
+-- demand-2-byte, demand-2-piece; laws_state/proofs/Accepted accepted-kept, run-accepted, and Calls feed-keeps to refresh-keeps
+pub fed-met : (length someMemory ≡ memoryLength panel) × (length someFont ≡ fontLength panel) × (accepted panel (started panel) ≡ true)
+unfolding panel
 fed-met = (refl, refl, started-accepted panel panel-usable)
 
 -- demand-2-answered, with these: 00h is an unknown code
@@ -39,15 +40,15 @@ answered-met =
     let f = demand-2-byte someFont (started panel) someMemory (fed-met .0) (fed-met .1) (fed-met .2) 0x00 in
     rw (f .outcome) (omega (arith, unknown))
 
--- demand-3 takes `InStep`: demand-3-met. kept/proofs/Held run-guest, run-outside, feed-guest, feed-outside
-pub holding-met : Holding panel 1 0 initialSettings (windowHeld someFont someMemory someGlass .answer .state)
+-- demand-3 takes `InStep`: demand-3-met. laws_state/proofs/Held run-guest, run-outside, feed-guest, feed-outside
+pub holding-met : Holding panel 1 0 (initialSettings panel) (windowHeld someFont someMemory someGlass .answer .state)
 holding-met = demand-3-met .holding
 
--- demand-3-feed; codec/proofs/Back back, read-back
+-- demand-3-feed; record_read/proofs/Back back, read-back
 pub sized-met : Sized panel (startCall panel someMemory .answer .state)
 sized-met = start-sized panel someMemory
 
--- demand-3-feed, demand-3-hold; stroke_laws/proofs/Glass strokes-synced, refreshed-shows, refreshed-synced
+-- demand-3-feed, demand-3-hold; laws_glass/proofs/Glass strokes-synced, refreshed-shows, refreshed-synced
 pub synced-met : (length (started panel .spans) ≡ panel .rows) × (glassLength panel ≤ length someMemory)
     × (length someGlass ≡ glassLength panel) × Synced panel someMemory someGlass (started panel .spans)
 unfolding panel initialState
@@ -55,9 +56,10 @@ synced-met = (refl, omega arith, refl, demand-3-start someMemory someGlass)
 
 -- demand-3-hold
 pub hold-met : holdNumber panel (windowFed someFont someMemory .answer .state) 1 ≡ 0
+unfolding panel
 hold-met = rw (window-state someFont someMemory refl refl) (holdable someFont)
 
--- kept/proofs/Spans run-holds, feed-holds
+-- laws_state/proofs/Spans run-holds, feed-holds
 pub span-met : spanHolds (getD (started panel .spans) 0 noSpan) 0 ≡ true
 unfolding panel initialState grown grownBy
 span-met = refl
@@ -68,16 +70,17 @@ zeros zero k = omega arith
 zeros (suc n) zero = omega arith
 zeros (suc n) (suc k) = zeros n k
 
--- marked/proofs/Cases marked
+-- laws_marked/proofs/Cases marked
 pub font-met : Font someFont
-font-met = record { size = refl; bytes = zeros 1120 }
+unfolding panel
+font-met = record { size = refl; bytes = zeros (fontLength panel) }
 
--- laws/proofs/Beginnings begins-ok
+-- laws_bytes/proofs/Beginnings begins-ok
 pub begins-met : Begins panel (0x1F ∷ 0x24 ∷ []) (Low CursorX)
 unfolding readFirst readUnit readOf
 begins-met = one-more 0x24 (one-more 0x1F no-byte (omega arith) refl) (omega arith) refl
 
--- laws/proofs/Beginnings ok-begins
+-- laws_bytes/proofs/Beginnings ok-begins
 pub fits-met : Fits (ImageData 512 2 511 1) × (halfOk panel (ImageData 512 2 511 1) ≡ true)
 unfolding panel halfOk
 fits-met = (omega arith, refl)

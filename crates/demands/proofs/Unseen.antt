@@ -5,7 +5,7 @@ use mathlib.Core.Bool.{Bool, true, false, cond, _&&_}
 use mathlib.Core.List.{List, [], _∷_}
 use Prim.Native.Nat.{ℕ}
 use lib.Dec.{eqb}
-use Rattle.paper.specs.declared.Geometry.{Geometry}
+use Rattle.paper.specs.declared.Module.{Module}
 use Rattle.paper.specs.declared.Cursor.{Cursor}
 use Rattle.paper.specs.declared.Span.{Span}
 use Rattle.paper.specs.declared.Half.the-variants.{Nothing}
@@ -58,7 +58,7 @@ module _ (ps : List Span) (s : State) where
   unfolding respan
   placed-same k = ap (λ (q : State). becomes q) (at-same k)
 
-  module _ (g : Geometry) where
+  module _ (g : Module) where
     -- what a command is asked
     asked-same : (c : Command) → askedOf g (withSpans s ps) c ≡ askedOf g s c
     unfolding insideWindow viewOf
@@ -75,7 +75,7 @@ module _ (ps : List Span) (s : State) where
     carried-same font (Character b) =
         moved-same (characterOf g font (s .settings .width) (s .settings .style) b (viewOf g s))
     carried-same font Back = placed-same _
-    carried-same font Tab = moved-same (htOf g (viewOf g s) (widthNow s) (heightNow s))
+    carried-same font Tab = moved-same (htOf g (viewOf g s) (widthNow g s) (heightNow s))
     carried-same font LineFeed = moved-same (lineFeedOf g (viewOf g s) (heightNow s))
     carried-same font Home = placed-same _
     carried-same font Clear = moved-same (clearOf (viewOf g s))
@@ -101,7 +101,7 @@ module _ (ps : List Span) (s : State) where
         (same-cond (respan ps) (askedOf g s c .notDefined) (answered-same NotDefined)
         (same-cond (respan ps) (askedOf g s c .tooLarge) (answered-same TooLarge) refl)))))
 
-module _ (g : Geometry) (font : List ℕ) (ps : List Span) (s : State) where
+module _ (g : Module) (font : List ℕ) (ps : List Span) (s : State) where
   -- whatever is read
   reading-same : (r : Reading) → takeOf g font (withSpans s ps) r ≡ respan ps (takeOf g font s r)
   unfolding takeOf viewOf imageStrokes respan
@@ -125,7 +125,7 @@ refed ps f =
     feeding (f .answer .refusal) (withSpans (f .answer .state) ps) (f .answer .carried) (f .answer .answered)
     (f .answer .outcome) (f .mem)
 
-module _ (g : Geometry) (font : List ℕ) where
+module _ (g : Module) (font : List ℕ) where
   -- a byte more: the spans grow by what it writes, and no more can be told
   next-same : (ps : List Span) (f : Feeding) (b : ℕ)
       → next g font (refed ps f) b ≡ refed (markAll ps (byteMeans g font (f .answer .state) b .strokes)) (next g font f b)

@@ -6,7 +6,7 @@ use mathlib.Core.List.{List, [], _∷_, _++_}
 use Prim.Native.Nat.{ℕ, zero, suc, _+_, _<_, _≤_}
 use lib.Dec.{eqb}
 use lib.ListN.{length, getD, replicate}
-use Rattle.paper.specs.declared.Geometry.{Geometry}
+use Rattle.paper.specs.declared.Module.{Module}
 use Rattle.paper.specs.declared.Settings.{Settings}
 use Rattle.paper.specs.declared.Span.{Span}
 use Rattle.paper.specs.declared.Half.the-variants.{Nothing}
@@ -40,10 +40,10 @@ oneOf (i ∷ is) n = eqb n i || oneOf is n
 
 -- ---- "Start: 1."
 
-abbrev pub startNumber : Geometry → List ℕ → ℕ
+abbrev pub startNumber : Module → List ℕ → ℕ
 startNumber g m = refusalNumber (startCall g m .answer .refusal)
 
-pub record StartAnswers (g : Geometry) (m : List ℕ) : Type 0 where
+pub record StartAnswers (g : Module) (m : List ℕ) : Type 0 where
   pub listed : oneOf (0 ∷ 1 ∷ []) (startNumber g m) ≡ true
   -- 1: "memory is not 1,024 bytes"
   pub number-1 : (startNumber g m ≡ 1) ↔ (length m ≢ memoryLength g)
@@ -56,7 +56,7 @@ pub record StartAnswers (g : Geometry) (m : List ℕ) : Type 0 where
 
 -- ---- "Feed: 1, 2, 8."
 
-abbrev pub feedNumber : Geometry → List ℕ → State → List ℕ → List ℕ → ℕ
+abbrev pub feedNumber : Module → List ℕ → State → List ℕ → List ℕ → ℕ
 feedNumber g font s m bytes = refusalNumber (feedCall g font s m bytes .answer .refusal)
 
 -- "nothing lent and nothing in the state changes, and every count given back is 0", and the outcome is 9
@@ -67,25 +67,25 @@ pub record NothingFed (s : State) (m : List ℕ) (f : Feeding) : Type 0 where
   pub answered : f .answer .answered ≡ 0
   pub outcome : outcomeNumber (f .answer .outcome) ≡ 9
 
-pub record FeedAnswers (g : Geometry) (font : List ℕ) (s : State) (m bytes : List ℕ) : Type 0 where
+pub record FeedAnswers (g : Module) (font : List ℕ) (s : State) (m bytes : List ℕ) : Type 0 where
   pub listed : oneOf (0 ∷ 1 ∷ 2 ∷ 8 ∷ []) (feedNumber g font s m bytes) ≡ true
   -- 1: "memory is not 1,024 bytes"
   pub number-1 : (feedNumber g font s m bytes ≡ 1) ↔ (length m ≢ memoryLength g)
   -- 2: "font is not 1,120 bytes"
-  pub number-2 : (feedNumber g font s m bytes ≡ 2) ↔ ((length m ≡ memoryLength g) × (length font ≢ fontLength))
+  pub number-2 : (feedNumber g font s m bytes ≡ 2) ↔ ((length m ≡ memoryLength g) × (length font ≢ fontLength g))
   -- 8: "state record breaks a bound of this paper"
   pub number-8 : (feedNumber g font s m bytes ≡ 8)
-      ↔ ((length m ≡ memoryLength g) × ((length font ≡ fontLength) × (accepted g s ≡ false)))
+      ↔ ((length m ≡ memoryLength g) × ((length font ≡ fontLength g) × (accepted g s ≡ false)))
   pub number-0 : (feedNumber g font s m bytes ≡ 0)
-      ↔ ((length m ≡ memoryLength g) × ((length font ≡ fontLength) × (accepted g s ≡ true)))
+      ↔ ((length m ≡ memoryLength g) × ((length font ≡ fontLength g) × (accepted g s ≡ true)))
   pub refused : feedNumber g font s m bytes ≢ 0 → NothingFed s m (feedCall g font s m bytes)
 
 -- ---- "Hold: 8, 6, 4, 5."
 
-abbrev pub holdNumber : Geometry → State → ℕ → ℕ
+abbrev pub holdNumber : Module → State → ℕ → ℕ
 holdNumber g s k = refusalNumber (holdCall g s k .refusal)
 
-pub record HoldAnswers (g : Geometry) (s : State) (k : ℕ) : Type 0 where
+pub record HoldAnswers (g : Module) (s : State) (k : ℕ) : Type 0 where
   pub listed : oneOf (0 ∷ 8 ∷ 6 ∷ 4 ∷ 5 ∷ []) (holdNumber g s k) ≡ true
   -- 8: "state record breaks a bound of this paper"
   pub number-8 : (holdNumber g s k ≡ 8) ↔ (accepted g s ≡ false)
@@ -107,10 +107,10 @@ pub record HoldAnswers (g : Geometry) (s : State) (k : ℕ) : Type 0 where
 
 -- ---- "Release: 8, 7."
 
-abbrev pub releaseNumber : Geometry → State → ℕ
+abbrev pub releaseNumber : Module → State → ℕ
 releaseNumber g s = refusalNumber (releaseCall g s .refusal)
 
-pub record ReleaseAnswers (g : Geometry) (s : State) : Type 0 where
+pub record ReleaseAnswers (g : Module) (s : State) : Type 0 where
   pub listed : oneOf (0 ∷ 8 ∷ 7 ∷ []) (releaseNumber g s) ≡ true
   -- 8: "state record breaks a bound of this paper"
   pub number-8 : (releaseNumber g s ≡ 8) ↔ (accepted g s ≡ false)
@@ -123,10 +123,10 @@ pub record ReleaseAnswers (g : Geometry) (s : State) : Type 0 where
 
 -- ---- "Refresh: 1, 3, 8."
 
-abbrev pub refreshNumber : Geometry → State → List ℕ → List ℕ → ℕ
+abbrev pub refreshNumber : Module → State → List ℕ → List ℕ → ℕ
 refreshNumber g s m glass = refusalNumber (refreshCall g s m glass .answer .refusal)
 
-pub record RefreshAnswers (g : Geometry) (s : State) (m glass : List ℕ) : Type 0 where
+pub record RefreshAnswers (g : Module) (s : State) (m glass : List ℕ) : Type 0 where
   pub listed : oneOf (0 ∷ 1 ∷ 3 ∷ 8 ∷ []) (refreshNumber g s m glass) ≡ true
   -- 1: "memory is not 1,024 bytes"
   pub number-1 : (refreshNumber g s m glass ≡ 1) ↔ (length m ≢ memoryLength g)
@@ -154,7 +154,7 @@ pub record RefreshAnswers (g : Geometry) (s : State) (m glass : List ℕ) : Type
 -- ---- one byte
 
 -- t is what document 01 has one byte come to: "So feeding single bytes shows every outcome."
-pub record ByteFed (g : Geometry) (m : List ℕ) (t : Meaning) (f : Feeding) : Type 0 where
+pub record ByteFed (g : Module) (m : List ℕ) (t : Meaning) (f : Feeding) : Type 0 where
   pub refusal : refusalNumber (f .answer .refusal) ≡ 0
   pub outcome : f .answer .outcome ≡ t .outcome
   -- dots
@@ -182,7 +182,7 @@ endsImage (ImageEnd column row b) = true
 endsImage Cancels = false
 endsImage UnknownCode = false
 
-abbrev pub IsCommand : Geometry → State → Reading → (Asked → Type 0) → Type 0
+abbrev pub IsCommand : Module → State → Reading → (Asked → Type 0) → Type 0
 IsCommand g s r P = (c : Command) × (r ≡ Whole c) × P (askedOf g s c)
 
 -- "Order for one command: .. then 14, 15, 11, 17, 16": P, and of a row and those before it none holds
@@ -199,7 +199,7 @@ abbrev pub After17 : State → Asked → Type 0 → Type 0
 After17 s a P = After11 s a ((a .notDefined ≡ false) × P)
 
 -- s is the state with nothing half read, r what the byte was read as, t what it comes to
-pub record ByteAnswers (g : Geometry) (s : State) (r : Reading) (t : Meaning) : Type 0 where
+pub record ByteAnswers (g : Module) (s : State) (r : Reading) (t : Meaning) : Type 0 where
   pub listed : (9 ≤ outcomeNumber (t .outcome)) × (outcomeNumber (t .outcome) ≤ 17)
   -- 9: "when that byte finished nothing"
   pub number-9 : (outcomeNumber (t .outcome) ≡ 9) ↔ (finishes r ≡ false)
@@ -234,19 +234,19 @@ pub record OnlyAnswered (s : State) (m : List ℕ) (f : Feeding) : Type 0 where
 -- ---- a piece
 
 -- one more byte fed, by itself, and its counts added
-abbrev pub fedOnce : Geometry → List ℕ → Feeding → ℕ → Feeding
+abbrev pub fedOnce : Module → List ℕ → Feeding → ℕ → Feeding
 fedOnce g font f b =
     let h = feedCall g font (f .answer .state) (f .mem) (b ∷ []) in
     feeding (h .answer .refusal) (h .answer .state) (f .answer .carried + h .answer .carried)
     (f .answer .answered + h .answer .answered) (h .answer .outcome) (h .mem)
 
 -- every byte of a piece fed by itself
-abbrev pub fedSingly : Geometry → List ℕ → Feeding → List ℕ → Feeding
+abbrev pub fedSingly : Module → List ℕ → Feeding → List ℕ → Feeding
 fedSingly g font f [] = f
 fedSingly g font f (b ∷ bs) = fedSingly g font (fedOnce g font f b) bs
 
 -- "A feed takes the whole piece and gives two counts .. It also gives the outcome of the piece's last byte"
-pub record PieceFed (g : Geometry) (font : List ℕ) (s : State) (m bytes : List ℕ) : Type 0 where
+pub record PieceFed (g : Module) (font : List ℕ) (s : State) (m bytes : List ℕ) : Type 0 where
   -- the piece is the fold of its bytes
   pub folded : feedCall g font s m bytes ≡ run g font (fedNothing Accepted s m) bytes
   -- and is what its bytes give one by one, counts summed
@@ -259,31 +259,31 @@ pub record PieceFed (g : Geometry) (font : List ℕ) (s : State) (m bytes : List
 
 -- what is begun with: window k is held, the glass equals the visible memory, both spans are empty, and the lent bytes are as
 -- many as asked
-pub record InStep (g : Geometry) (font : List ℕ) (k back : ℕ) (v : Settings) (s : State) (m glass : List ℕ) : Type 0 where
+pub record InStep (g : Module) (font : List ℕ) (k back : ℕ) (v : Settings) (s : State) (m glass : List ℕ) : Type 0 where
   pub holding : Holding g k back v s
   pub spans : s .spans ≡ noSpans g
   pub shows : glass ≡ visible g m
   pub memory : length m ≡ memoryLength g
-  pub fonts : length font ≡ fontLength
+  pub fonts : length font ≡ fontLength g
 
 -- the span of an address's row holds its column
-abbrev pub inSpans : Geometry → List Span → ℕ → Bool
+abbrev pub inSpans : Module → List Span → ℕ → Bool
 inSpans g ps a = spanHolds (getD ps (rowOf g a) noSpan) (columnOf g a)
 
 -- how many of the addresses below n are in the spans
-abbrev pub spannedBelow : Geometry → List Span → ℕ → ℕ
+abbrev pub spannedBelow : Module → List Span → ℕ → ℕ
 spannedBelow g ps zero = 0
 spannedBelow g ps (suc a) = spannedBelow g ps a + cond (inSpans g ps a) 1 0
 
 -- from glass `was` came glass `is`: "Refresh copies each span's visible columns, changes no other glass byte"
-pub record CopiedOnly (g : Geometry) (ps : List Span) (m was is : List ℕ) : Type 0 where
+pub record CopiedOnly (g : Module) (ps : List Span) (m was is : List ℕ) : Type 0 where
   pub size : length is ≡ length was
   pub copied : (a : ℕ) → a < glassLength g → inSpans g ps a ≡ true → getD is a 0 ≡ getD m a 0
   pub kept : (a : ℕ) → a < glassLength g → inSpans g ps a ≡ false → getD is a 0 ≡ getD was a 0
 
 -- a refresh of a whole play, which answered r, moved n bytes and left this glass: b is the play before it and rest the play after
 -- it, and ps are the spans written since the refresh before it
-pub record RefreshedAt {S A : Type 0} (g : Geometry) (ps : List Span) (b : Play S A) (r : A) (n : ℕ) (glass : List ℕ)
+pub record RefreshedAt {S A : Type 0} (g : Module) (ps : List Span) (b : Play S A) (r : A) (n : ℕ) (glass : List ℕ)
     (rest whole : Play S A) : Type 0 where
   -- this is its place
   pub place : whole ≡ followed b (refreshedThen r n rest)
@@ -295,7 +295,7 @@ pub record RefreshedAt {S A : Type 0} (g : Geometry) (ps : List Span) (b : Play 
 
 -- p is what the pieces and refreshes come to, one is what the joined bytes come to, fed at once, and last is p with one more
 -- refresh
-pub record Served (g : Geometry) (font : List ℕ) (k back : ℕ) (v : Settings) (s : State) (m glass : List ℕ)
+pub record Served (g : Module) (font : List ℕ) (k back : ℕ) (v : Settings) (s : State) (m glass : List ℕ)
     (events : List Event) (p : Play State Refusal) (one : Feeding) (last : Play State Refusal) : Type 0 where
   -- no call is refused
   pub refusals : p .answers ≡ replicate (length events) Accepted
@@ -333,14 +333,14 @@ windowHeld font m glass =
 abbrev pub BegunInStep : (font m glass : List ℕ) → Type 0
 BegunInStep font m glass =
     let r = windowHeld font m glass in
-    InStep panel font 1 0 initialSettings (r .answer .state) (windowFed font m .mem) (r .glass)
+    InStep panel font 1 0 (initialSettings panel) (r .answer .state) (windowFed font m .mem) (r .glass)
 
 -- lent to it
 abbrev pub someFont : List ℕ
-someFont = replicate 1120 0
+someFont = replicate (fontLength panel) 0
 
 abbrev pub someMemory : List ℕ
-someMemory = replicate 1024 0x3C
+someMemory = replicate (memoryLength panel) 0x3C
 
 abbrev pub someGlass : List ℕ
-someGlass = replicate 224 0xC3
+someGlass = replicate (glassLength panel) 0xC3

@@ -3,7 +3,7 @@
 use mathlib.Core.List.{List, [], _∷_, _++_}
 use Prim.Native.Nat.{ℕ, _+_}
 use lib.ListN.{replicate, take}
-use Rattle.paper.specs.declared.Geometry.{Geometry}
+use Rattle.paper.specs.declared.Module.{Module}
 use Rattle.paper.specs.declared.Span.{Span}
 use Rattle.paper.specs.declared.Refusal.{Refusal}
 use Rattle.paper.specs.declared.State.{State}
@@ -81,7 +81,7 @@ module _ {S A : Type 0} where
       }
 
 -- each piece is fed and each refresh made, on what the one before left
-abbrev pub play : Geometry → List ℕ → State → List ℕ → List ℕ → List Event → Play State Refusal
+abbrev pub play : Module → List ℕ → State → List ℕ → List ℕ → List Event → Play State Refusal
 play g font s m glass [] = resting s m glass
 play g font s m glass (piece bs ∷ es) =
     let f = feedCall g font s m bs in
@@ -93,33 +93,33 @@ play g font s m glass (refresh ∷ es) =
 -- ---- what document 01 has written at each refresh
 
 -- the state that bytes lead to, by their meaning
-abbrev pub onwards : Geometry → List ℕ → State → List ℕ → State
+abbrev pub onwards : Module → List ℕ → State → List ℕ → State
 onwards g font s [] = s
 onwards g font s (b ∷ bs) = onwards g font (settled (byteMeans g font s b)) bs
 
 -- all that bytes write, in order
-abbrev pub strokesOf : Geometry → List ℕ → State → List ℕ → List Stroke
+abbrev pub strokesOf : Module → List ℕ → State → List ℕ → List Stroke
 strokesOf g font s [] = []
 strokesOf g font s (b ∷ bs) = byteMeans g font s b .strokes ++ strokesOf g font (settled (byteMeans g font s b)) bs
 
 -- "both spans empty"
-abbrev pub noSpans : Geometry → List Span
+abbrev pub noSpans : Module → List Span
 noSpans g = replicate (g .rows) noSpan
 
 -- the spans of what was written since the last refresh, `since` being what was written before these events. The state goes on
 -- as the joined bytes take it: no refresh changes it
-abbrev pub spansSince : Geometry → List ℕ → State → List Stroke → List Event → List Span
+abbrev pub spansSince : Module → List ℕ → State → List Stroke → List Event → List Span
 spansSince g font s since [] = markAll (noSpans g) since
 spansSince g font s since (piece bs ∷ es) =
     spansSince g font (onwards g font s bs) (since ++ strokesOf g font s bs) es
 spansSince g font s since (refresh ∷ es) = spansSince g font s [] es
 
 -- "the sum of the visible span lengths", for each refresh, of what was written since the one before
-abbrev pub owed : Geometry → List ℕ → State → List Stroke → List Event → List ℕ
+abbrev pub owed : Module → List ℕ → State → List Stroke → List Event → List ℕ
 owed g font s since [] = []
 owed g font s since (piece bs ∷ es) = owed g font (onwards g font s bs) (since ++ strokesOf g font s bs) es
 owed g font s since (refresh ∷ es) = shownAll g (markAll (noSpans g) since) ∷ owed g font s [] es
 
 -- "the visible memory": columns 0 to 111 are its first bytes
-abbrev pub visible : Geometry → List ℕ → List ℕ
+abbrev pub visible : Module → List ℕ → List ℕ
 visible g m = take (glassLength g) m

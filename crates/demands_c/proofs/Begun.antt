@@ -5,7 +5,7 @@ use Prim.Native.Nat.{ℕ}
 use lib.ListN.{length}
 use borrow.Author.Tests.{eq-eqb}
 use Rattle.paper.specs.declared.State.{State}
-use Rattle.paper.specs.Panel.{panel}
+use Rattle.paper.specs.Panel.{panel, memoryLength, glassLength, fontLength}
 use Rattle.paper.specs.Calls.{Feeding, startCall, feedCall, holdCall, Refreshing, refreshCall}
 use Rattle.laws_marked.specs.Marked.{windowOne}
 use Rattle.demands.specs.Demands.{windowFed, windowHeld}
@@ -70,7 +70,7 @@ module _ (font l m glass : List ℕ) (h : length l ≡ 103) where
       ap₂ (λ (s : State) (n : List ℕ). refreshCall panel s n glass)
       (hold-stands (f .state) f-size 1 ∙ ap (λ (s : State). holdCall panel s 1 .state) fed-state) fed-mem
 
-  pub begun-in-step-C : length font ≡ 1120 → length m ≡ 1024 → length glass ≡ 224 → BegunInStepC font l m glass
+  pub begun-in-step-C : length font ≡ fontLength panel → length m ≡ memoryLength panel → length glass ≡ glassLength panel → BegunInStepC font l m glass
   begun-in-step-C fonts memory size =
       let z = hold-size (f .state) f-size 1 in
       let r = refresh-is (held .state) z (f .mem) glass in

@@ -9,7 +9,7 @@ use lib.Dec.{eqb}
 use lib.ListN.{length}
 use borrow.Author.Tests.{eq-eqb, ne-eqb}
 use Rattle.paper.specs.declared.State.{State}
-use Rattle.paper.specs.Panel.{panel}
+use Rattle.paper.specs.Panel.{panel, memoryLength, fontLength}
 use Rattle.paper.specs.Strokes.{applyAll, refreshed, shownAll}
 use Rattle.paper.specs.Settings.{initialState}
 use Rattle.paper.specs.Bounds.{accepted}
@@ -226,7 +226,7 @@ module _ (l m glass : List ℕ) where
 
 -- ---- a feed that is not refused
 
-pub piece-fed-C : (l m font bytes : List ℕ) → length m ≡ 1024 → length font ≡ 1120 → accepted panel (stateOf l) ≡ true
+pub piece-fed-C : (l m font bytes : List ℕ) → length m ≡ memoryLength panel → length font ≡ fontLength panel → accepted panel (stateOf l) ≡ true
     → PieceFedC (feedCall panel font (stateOf l) m bytes) (feedC l m font bytes)
 unfolding feedC panel
 piece-fed-C l m font bytes memory fonts ok =

@@ -6,7 +6,7 @@ use mathlib.Core.List.{List, [], _∷_, _++_}
 use Prim.Native.Nat.{ℕ}
 use lib.ListN.{length}
 use Rattle.paper.specs.declared.Settings.{Settings}
-use Rattle.paper.specs.Panel.{panel}
+use Rattle.paper.specs.Panel.{panel, memoryLength, glassLength, fontLength}
 use Rattle.paper.specs.Bounds.{accepted}
 use Rattle.paper.specs.Calls.{feedCall}
 use Rattle.demands.specs.Events.{Event, refresh, joined, play}
@@ -38,7 +38,7 @@ demand-1-refresh-C = refresh-answers-C
 
 -- ==== DEMAND 2: what is fed from C is document 01's feed of the state that the record stands for
 
-pub demand-2-C : (l m font bytes : List ℕ) → length m ≡ 1024 → length font ≡ 1120 → accepted panel (stateOf l) ≡ true
+pub demand-2-C : (l m font bytes : List ℕ) → length m ≡ memoryLength panel → length font ≡ fontLength panel → accepted panel (stateOf l) ≡ true
     → PieceFedC (feedCall panel font (stateOf l) m bytes) (feedC l m font bytes)
 demand-2-C = piece-fed-C
 
@@ -58,10 +58,11 @@ demand-3-paper-C = same-play
 
 -- ---- and it can be begun: a panel that is started, fed a define, held and refreshed is in step, whatever is lent
 
-pub demand-3-begun-C : (font l m glass : List ℕ) → length l ≡ 103 → length font ≡ 1120 → length m ≡ 1024
-    → length glass ≡ 224 → BegunInStepC font l m glass
+pub demand-3-begun-C : (font l m glass : List ℕ) → length l ≡ 103 → length font ≡ fontLength panel → length m ≡ memoryLength panel
+    → length glass ≡ glassLength panel → BegunInStepC font l m glass
 demand-3-begun-C = begun-in-step-C
 
 -- with nothing assumed
 pub demand-3-met-C : BegunInStepC someFont someRecord someMemory someGlass
+unfolding panel
 demand-3-met-C = demand-3-begun-C someFont someRecord someMemory someGlass refl refl refl refl

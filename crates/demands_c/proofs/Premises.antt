@@ -37,5 +37,5 @@ no-state-met = (
   refl,
   λ s h e.
       true≢false
-      (sym (parts panel s h .settings) ∙ ap settingsOk (ap (λ (l : List ℕ). settingsAt l 0) (sym e))),
+      (sym (parts panel s h .settings) ∙ ap (settingsOk panel) (ap (λ (l : List ℕ). settingsAt l 0) (sym e))),
 )

@@ -54,7 +54,7 @@ select-same ws (suc (suc (suc zero))) = refl
 select-same ws (suc (suc (suc (suc zero)))) = refl
 select-same ws (suc (suc (suc (suc (suc k))))) = rw (lt-leb (suc (suc (suc (suc (suc k))))) 4 (omega arith))
 
-hold-same : (ws : List Window) (n : ℕ) (h : Hold) → holdOk (four ws) n h ≡ holdOk ws n h
+hold-same : (ws : List Window) (n : ℕ) (h : Hold) → holdOk panel (four ws) n h ≡ holdOk panel ws n h
 unfolding holdOk
 hold-same ws n Free = refl
 hold-same ws n (Held k back v) = rw (select-same ws k, select-same ws back)

@@ -7,7 +7,7 @@ use mathlib.Core.List.{List, [], _∷_, _++_}
 use Prim.Native.Nat.{ℕ, _≤_}
 use lib.ListN.{length, getD, replicate}
 use Rattle.paper.specs.declared.Settings.{Settings}
-use Rattle.paper.specs.Panel.{panel}
+use Rattle.paper.specs.Panel.{panel, memoryLength, glassLength, fontLength}
 use Rattle.paper.specs.Strokes.{applyAll, refreshed, shownAll}
 use Rattle.paper.specs.Numbers.{outcomeNumber}
 use Rattle.paper.specs.Reading.{between}
@@ -38,8 +38,8 @@ pub record StartAnswersC (l m : List ℕ) : Type 0 where
   pub listed : oneOf (100 ∷ 0 ∷ 1 ∷ []) (startC l m .answer) ≡ true
   pub number-100 : (startC l m .answer ≡ 100) ↔ (length l ≢ 103)
   -- 1: "memory is not 1,024 bytes"
-  pub number-1 : (startC l m .answer ≡ 1) ↔ ((length l ≡ 103) × (length m ≢ 1024))
-  pub number-0 : (startC l m .answer ≡ 0) ↔ ((length l ≡ 103) × (length m ≡ 1024))
+  pub number-1 : (startC l m .answer ≡ 1) ↔ ((length l ≡ 103) × (length m ≢ memoryLength panel))
+  pub number-0 : (startC l m .answer ≡ 0) ↔ ((length l ≡ 103) × (length m ≡ memoryLength panel))
   -- a buffer of another length is left alone
   pub wrong : startC l m .answer ≡ 100 → (startC l m .state ≡ l) × (startC l m .mem ≡ m)
   -- "Start takes no state; refused, it gives the initial state with both spans empty", and nothing lent changes
@@ -62,15 +62,15 @@ pub record FeedAnswersC (l m font bytes : List ℕ) : Type 0 where
   pub listed : oneOf (100 ∷ 0 ∷ 1 ∷ 2 ∷ 8 ∷ []) (feedC l m font bytes .answer .answer) ≡ true
   pub number-100 : (feedC l m font bytes .answer .answer ≡ 100) ↔ (length l ≢ 103)
   -- 1: "memory is not 1,024 bytes"
-  pub number-1 : (feedC l m font bytes .answer .answer ≡ 1) ↔ ((length l ≡ 103) × (length m ≢ 1024))
+  pub number-1 : (feedC l m font bytes .answer .answer ≡ 1) ↔ ((length l ≡ 103) × (length m ≢ memoryLength panel))
   -- 2: "font is not 1,120 bytes"
   pub number-2 : (feedC l m font bytes .answer .answer ≡ 2)
-      ↔ ((length l ≡ 103) × ((length m ≡ 1024) × (length font ≢ 1120)))
+      ↔ ((length l ≡ 103) × ((length m ≡ memoryLength panel) × (length font ≢ fontLength panel)))
   -- 8: "state record breaks a bound of this paper"
   pub number-8 : (feedC l m font bytes .answer .answer ≡ 8)
-      ↔ ((length l ≡ 103) × ((length m ≡ 1024) × ((length font ≡ 1120) × NoState l)))
+      ↔ ((length l ≡ 103) × ((length m ≡ memoryLength panel) × ((length font ≡ fontLength panel) × NoState l)))
   pub number-0 : (feedC l m font bytes .answer .answer ≡ 0)
-      ↔ ((length l ≡ 103) × ((length m ≡ 1024) × ((length font ≡ 1120) × (accepted panel (stateOf l) ≡ true))))
+      ↔ ((length l ≡ 103) × ((length m ≡ memoryLength panel) × ((length font ≡ fontLength panel) × (accepted panel (stateOf l) ≡ true))))
   pub refused : feedC l m font bytes .answer .answer ≢ 0 → NothingFedC l m (feedC l m font bytes)
 
 -- ---- "Hold: 8, 6, 4, 5."
@@ -120,15 +120,15 @@ pub record RefreshAnswersC (l m glass : List ℕ) : Type 0 where
   pub listed : oneOf (100 ∷ 0 ∷ 1 ∷ 3 ∷ 8 ∷ []) (refreshC l m glass .answer .answer) ≡ true
   pub number-100 : (refreshC l m glass .answer .answer ≡ 100) ↔ (length l ≢ 103)
   -- 1: "memory is not 1,024 bytes"
-  pub number-1 : (refreshC l m glass .answer .answer ≡ 1) ↔ ((length l ≡ 103) × (length m ≢ 1024))
+  pub number-1 : (refreshC l m glass .answer .answer ≡ 1) ↔ ((length l ≡ 103) × (length m ≢ memoryLength panel))
   -- 3: "glass is not 224 bytes"
   pub number-3 : (refreshC l m glass .answer .answer ≡ 3)
-      ↔ ((length l ≡ 103) × ((length m ≡ 1024) × (length glass ≢ 224)))
+      ↔ ((length l ≡ 103) × ((length m ≡ memoryLength panel) × (length glass ≢ glassLength panel)))
   -- 8: "state record breaks a bound of this paper"
   pub number-8 : (refreshC l m glass .answer .answer ≡ 8)
-      ↔ ((length l ≡ 103) × ((length m ≡ 1024) × ((length glass ≡ 224) × NoState l)))
+      ↔ ((length l ≡ 103) × ((length m ≡ memoryLength panel) × ((length glass ≡ glassLength panel) × NoState l)))
   pub number-0 : (refreshC l m glass .answer .answer ≡ 0)
-      ↔ ((length l ≡ 103) × ((length m ≡ 1024) × ((length glass ≡ 224) × (accepted panel (stateOf l) ≡ true))))
+      ↔ ((length l ≡ 103) × ((length m ≡ memoryLength panel) × ((length glass ≡ glassLength panel) × (accepted panel (stateOf l) ≡ true))))
   -- the record and the glass stay, and the count is 0
   pub refused : refreshC l m glass .answer .answer ≢ 0
       → (refreshC l m glass .state ≡ l) × (refreshC l m glass .answer .moved ≡ 0) × (refreshC l m glass .glass ≡ glass)
@@ -185,7 +185,7 @@ pub record ServedC (font : List ℕ) (k back : ℕ) (v : Settings) (l m glass : 
       (playC font (r .state) (b .mem) (r .glass) after) p
   -- as many bytes as these have, "224 at most"
   pub moved : p .moved ≡ owed panel font (stateOf l) [] events
-  pub most : (i : ℕ) → getD (p .moved) i 0 ≤ 224
+  pub most : (i : ℕ) → getD (p .moved) i 0 ≤ glassLength panel
 
 -- ---- one panel that is begun with: started, fed the define of marked case 11, its window held, and refreshed
 
@@ -199,7 +199,7 @@ windowHeldC font l m glass =
 abbrev pub BegunInStepC : (font l m glass : List ℕ) → Type 0
 BegunInStepC font l m glass =
     let r = windowHeldC font l m glass in
-    InStep panel font 1 0 initialSettings (stateOf (r .state)) (windowFedC font l m .mem) (r .glass)
+    InStep panel font 1 0 (initialSettings panel) (stateOf (r .state)) (windowFedC font l m .mem) (r .glass)
 
 -- a caller's buffer for the record
 abbrev pub someRecord : List ℕ

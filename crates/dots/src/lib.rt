@@ -1,7 +1,7 @@
 // Dots: the memory as bytes at rows·x + y. Rectangles are cleared and moved, spans grow and are copied to the glass.
 // Each contract gives the whole memory, or the whole glass, afterwards.
 // It may use the paper, the laws of the memory and the spans' growth, and it knows nothing of characters, windows or the state.
-use paper::Geometry;
+use paper::Module;
 use paper::Rect;
 use paper::Span;
 ghost use mathlib.Core.Path.{_≡_};
@@ -14,7 +14,7 @@ ghost use Rattle.laws_memory.specs.Rectangles.{Fits, Within, cleared, pulled, s
 ghost use Rattle.laws_memory.specs.Glass.{Shows, copied};
 
 // The address of column x, row y.
-pub fn at(g: Geometry, x: usize, y: usize) -> usize
+pub fn at(g: Module, x: usize, y: usize) -> usize
     requires { ⌜ (x < g .columns) × (y < g .rows) × (memoryLength g ≤ 65536) ⌝ }
     ensures { λ a. ⌜ (a ≡ address g x y) × (a < memoryLength g) ⌝ }
 {
@@ -22,7 +22,7 @@ pub fn at(g: Geometry, x: usize, y: usize) -> usize
 }
 
 // Zeroes the columns of one row.
-fn clear_row(g: Geometry, mem: &mut [u8], left: usize, y: usize, width: usize)
+fn clear_row(g: Module, mem: &mut [u8], left: usize, y: usize, width: usize)
     requires { ⌜ Within g (rectAt left y width 1) × Fits g (now mem) ⌝ }
     ensures { λ _. ⌜ now (mem .exit) ≡ cleared g (rectAt left y width 1) (now (mem .entry)) ⌝ }
 {
@@ -33,7 +33,7 @@ fn clear_row(g: Geometry, mem: &mut [u8], left: usize, y: usize, width: usize)
 }
 
 // Zeroes a rectangle.
-pub fn clear(g: Geometry, mem: &mut [u8], r: Rect)
+pub fn clear(g: Module, mem: &mut [u8], r: Rect)
     requires { ⌜ Within g r × Fits g (now mem) ⌝ }
     ensures { λ _. ⌜ now (mem .exit) ≡ cleared g r (now (mem .entry)) ⌝ }
 {
@@ -52,7 +52,7 @@ pub fn least(a: usize, b: usize) -> usize
 // Each column of one row takes the byte `right` columns right of it and `down` rows below. It goes from the left, so
 // that no byte is taken after another was stored over it.
 fn pull_row(
-    g: Geometry,
+    g: Module,
     mem: &mut [u8],
     left: usize,
     y: usize,
@@ -72,7 +72,7 @@ fn pull_row(
 }
 
 // The same for each row of a rectangle, from the top.
-fn pull(g: Geometry, mem: &mut [u8], r: Rect, right: usize, down: usize)
+fn pull(g: Module, mem: &mut [u8], r: Rect, right: usize, down: usize)
     requires { ⌜ Within g (rectAt (r .left) (r .top) (r .width + right) (r .height + down)) × Fits g (now mem) ⌝ }
     ensures { λ _. ⌜ now (mem .exit) ≡ pulled g r right down (now (mem .entry)) ⌝ }
 {
@@ -82,7 +82,7 @@ fn pull(g: Geometry, mem: &mut [u8], r: Rect, right: usize, down: usize)
 }
 
 // The rows of a rectangle move up, as many as `lines` says, and zeros enter below.
-pub fn scroll_up(g: Geometry, mem: &mut [u8], r: Rect, lines: usize)
+pub fn scroll_up(g: Module, mem: &mut [u8], r: Rect, lines: usize)
     requires { ⌜ Within g r × Fits g (now mem) ⌝ }
     ensures { λ _. ⌜ now (mem .exit) ≡ scrolledUp g r lines (now (mem .entry)) ⌝ }
 {
@@ -98,7 +98,7 @@ pub fn scroll_up(g: Geometry, mem: &mut [u8], r: Rect, lines: usize)
 }
 
 // The columns of a rectangle move left by n, and zeros enter on the right.
-pub fn move_left(g: Geometry, mem: &mut [u8], r: Rect, n: usize)
+pub fn move_left(g: Module, mem: &mut [u8], r: Rect, n: usize)
     requires { ⌜ Within g r × Fits g (now mem) ⌝ }
     ensures { λ _. ⌜ now (mem .exit) ≡ movedLeft g r n (now (mem .entry)) ⌝ }
 {
@@ -149,7 +149,7 @@ pub fn mark(spans: [Span; 2], r: Rect) -> [Span; 2]
 }
 
 // Zeroes all of memory, and marks all of it.
-pub fn erase(g: Geometry, mem: &mut [u8], spans: [Span; 2]) -> [Span; 2]
+pub fn erase(g: Module, mem: &mut [u8], spans: [Span; 2]) -> [Span; 2]
     requires { ⌜ Fits g (now mem) × ((g .columns < 65536) × (g .rows < 65536)) ⌝ }
     ensures { λ ps. ⌜ (now (mem .exit) ≡ cleared g (memoryRect g) (now (mem .entry))) × (ps ≡ markRect (memoryRect g) spans) ⌝ }
 {
@@ -164,7 +164,7 @@ pub fn erase(g: Geometry, mem: &mut [u8], spans: [Span; 2]) -> [Span; 2]
 }
 
 // How many of a span's columns are visible.
-pub fn shown_of(g: Geometry, p: Span) -> usize
+pub fn shown_of(g: Module, p: Span) -> usize
     ensures { λ r. ⌜ r ≡ shown g p ⌝ }
 {
     let first = p.first as usize;
@@ -184,7 +184,7 @@ fn copy_byte(mem: &[u8], glass: &mut [u8], a: usize) -> usize
 }
 
 // Copies a span's visible columns of row y to the glass. The number of bytes copied.
-pub fn copy_row(g: Geometry, mem: &[u8], glass: &mut [u8], y: usize, p: Span) -> usize
+pub fn copy_row(g: Module, mem: &[u8], glass: &mut [u8], y: usize, p: Span) -> usize
     requires { ⌜ (y < g .rows) × Shows g (now mem) (now glass) ⌝ }
     ensures { λ n. ⌜ (now (glass .exit) ≡ copied g (now (mem .entry)) y p (now (glass .entry))) × (n ≡ shown g p) ⌝ }
 {
@@ -199,7 +199,7 @@ pub fn copy_row(g: Geometry, mem: &[u8], glass: &mut [u8], y: usize, p: Span) ->
 }
 
 // Copies each span's visible columns to the glass. The number of bytes copied.
-pub fn refresh(g: Geometry, mem: &[u8], glass: &mut [u8], spans: [Span; 2]) -> usize
+pub fn refresh(g: Module, mem: &[u8], glass: &mut [u8], spans: [Span; 2]) -> usize
     requires { ⌜ (2 ≤ g .rows) × Shows g (now mem) (now glass) ⌝ }
     ensures { λ n. ⌜ (now (glass .exit) ≡ refreshed g (now (mem .entry)) spans (now (glass .entry)))
         × (n ≡ shownAll g spans) ⌝ }

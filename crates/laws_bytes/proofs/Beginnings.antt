@@ -9,7 +9,7 @@ use native.Mathlib.Numerals.{add-one}
 use native.Mathlib.Omega.{arith}
 use lib.Dec.{leb}
 use borrow.Author.Tests.{lt-leb, lt-ltb, le-ltb}
-use Rattle.paper.specs.declared.Geometry.{Geometry}
+use Rattle.paper.specs.declared.Module.{Module}
 use Rattle.paper.specs.declared.Key.{Key}
 use Rattle.paper.specs.declared.Key.the-variants.{Charset, Codes, Caret, Brightness, Reverse, Speed, Mixing, Width, Write}
 use Rattle.paper.specs.declared.Word.{Word}
@@ -17,14 +17,14 @@ use Rattle.paper.specs.declared.Word.the-variants.{CursorX, CursorY, WindowLeft
 use Rattle.paper.specs.declared.Half.{Half}
 use Rattle.paper.specs.declared.Half.the-variants.{Nothing, Escape, Unit, Group, Actions, Images, Characters, Windows, Value, Rest, DownloadA, DownloadFrom, DownloadTo, GlyphWidth, GlyphByte, Low, High, ImageKind, ImageData, EnlargeX, EnlargeY, SelectA, WindowA, WindowB}
 use Rattle.paper.specs.declared.Reading.the-variants.{More, ImageByte}
-use Rattle.paper.specs.Reading.{between, readFirst, readEscape, readUnit, readGroup, readActions, readImages, readCharacters, readWindows, readRest, readGlyphByte, readWindowB, word16, readWord, readImage, readOf}
+use Rattle.paper.specs.Reading.{between, readFirst, readEscape, readUnit, readGroup, readActions, readImages, readCharacters, isKnown, readWindows, readRest, readGlyphByte, readWindowB, word16, readWord, readImage, readOf}
 use Rattle.paper.specs.Bounds.{wordOk, halfOk}
 use Rattle.laws_bytes.specs.Readings.{readingOk}
 use Rattle.laws_bytes.specs.Beginnings.{Begins, no-byte, one-more, one-stored, Beginning, WordFits, Fits}
 use Rattle.laws_bytes.proofs.Tests.{both-of, between-facts, between-true}
 use Rattle.laws_bytes.proofs.Readings.{image-facts, reads-ok, image-byte-facts}
 
-module _ (g : Geometry) where
+module _ (g : Module) where
   -- what bytes lead to is accepted
   pub begins-ok : {bs : List ℕ} {p : Half} → Begins g bs p → halfOk g p ≡ true
   unfolding halfOk readingOk
@@ -85,17 +85,17 @@ module _ (g : Geometry) where
   windows = more 0x77 (omega arith) refl group
 
   -- the parameter of a setting
-  value : (key : Key) → Beginning g (Value key)
-  unfolding readOf readEscape readUnit readCharacters readWindows
-  value Charset = more 0x52 (omega arith) refl escape
-  value Codes = more 0x74 (omega arith) refl escape
-  value Caret = more 0x43 (omega arith) refl unit
-  value Brightness = more 0x58 (omega arith) refl unit
-  value Reverse = more 0x72 (omega arith) refl unit
-  value Speed = more 0x73 (omega arith) refl unit
-  value Mixing = more 0x77 (omega arith) refl unit
-  value Width = more 0x03 (omega arith) refl characters
-  value Write = more 0x10 (omega arith) refl windows
+  value : (key : Key) → isKnown g key ≡ true → Beginning g (Value key)
+  unfolding readOf readEscape readUnit readCharacters readWindows isKnown
+  value Charset h = more 0x52 (omega arith) refl escape
+  value Codes h = more 0x74 (omega arith) refl escape
+  value Caret h = more 0x43 (omega arith) refl unit
+  value Brightness h = more 0x58 (omega arith) refl unit
+  value Reverse h = more 0x72 (omega arith) refl unit
+  value Speed h = more 0x73 (omega arith) refl unit
+  value Mixing h = more 0x77 (omega arith) refl unit
+  value Width h = more 0x03 (omega arith) (rw h) characters
+  value Write h = more 0x10 (omega arith) refl windows
 
   -- ---- what is counted down
 
@@ -117,25 +117,25 @@ module _ (g : Geometry) where
       5 left (f .0) (f .1) (more 0x10 (omega arith) refl actions)
 
   -- the define's a
-  define-a : Beginning g DownloadA
+  define-a : g .downloads ≡ true → Beginning g DownloadA
   unfolding readOf readEscape
-  define-a = more 0x26 (omega arith) refl escape
+  define-a d = more 0x26 (omega arith) (rw d) escape
 
   -- its c1
-  define-from : Beginning g DownloadFrom
+  define-from : g .downloads ≡ true → Beginning g DownloadFrom
   unfolding readOf
-  define-from = more 1 (omega arith) refl define-a
+  define-from d = more 1 (omega arith) refl (define-a d)
 
   -- its c2
-  define-to : (from : ℕ) → leb 0x20 from ≡ true → from < 256 → Beginning g (DownloadTo from)
+  define-to : g .downloads ≡ true → (from : ℕ) → leb 0x20 from ≡ true → from < 256 → Beginning g (DownloadTo from)
   unfolding readOf
-  define-to from h l = more from l (rw h) define-from
+  define-to d from h l = more from l (rw h) (define-from d)
 
   -- the width of a glyph
-  glyph-width : (code last : ℕ) → leb 0x20 code ≡ true → leb code last ≡ true → code < 256 → last < 256
+  glyph-width : g .downloads ≡ true → (code last : ℕ) → leb 0x20 code ≡ true → leb code last ≡ true → code < 256 → last < 256
       → Beginning g (GlyphWidth code last)
   unfolding readOf
-  glyph-width code last h e l m = more last m (rw e) (define-to code h l)
+  glyph-width d code last h e l m = more last m (rw e) (define-to d code h l)
 
   -- a byte of a glyph, 7 of them at most
   glyph-byte : (code last left : ℕ) → between 1 7 left ≡ true → Beginning g (GlyphWidth code last)
@@ -278,18 +278,21 @@ module _ (g : Geometry) where
   ok-begins Images h f = pictures
   ok-begins Characters h f = characters
   ok-begins Windows h f = windows
-  ok-begins (Value key) h f = value key
+  ok-begins (Value key) h f = value key h
   ok-begins (Rest left) h f = rest left h
-  ok-begins DownloadA h f = define-a
-  ok-begins DownloadFrom h f = define-from
-  ok-begins (DownloadTo from) h f = define-to from h f
+  ok-begins DownloadA h f = define-a h
+  ok-begins DownloadFrom h f = define-from h
+  ok-begins (DownloadTo from) h f =
+      let d = both-of (g .downloads) (leb 0x20 from) h in define-to (d .0) from (d .1) f
   ok-begins (GlyphWidth code last) h f =
-      let c = both-of (leb 0x20 code) (leb code last) h in
-      glyph-width code last (c .0) (c .1) (f .0) (f .1)
+      let d = both-of (g .downloads) _ h in
+      let c = both-of (leb 0x20 code) (leb code last) (d .1) in
+      glyph-width (d .0) code last (c .0) (c .1) (f .0) (f .1)
   ok-begins (GlyphByte code last left) h f =
-      let c = both-of (leb 0x20 code) _ h in
+      let d = both-of (g .downloads) _ h in
+      let c = both-of (leb 0x20 code) _ (d .1) in
       let l = both-of (leb code last) _ (c .1) in
-      glyph-byte code last left (l .1) (glyph-width code last (c .0) (l .0) (f .0) (f .1))
+      glyph-byte code last left (l .1) (glyph-width (d .0) code last (c .0) (l .0) (f .0) (f .1))
   ok-begins (Low w) h f = low w h f
   ok-begins (High w low-byte) h f = more low-byte (f .1) refl (low w h (f .0))
   ok-begins (ImageKind width height) h f = image-kind width height h (f .0) (f .1)

@@ -1,52 +1,59 @@
 -- A drawn cell in bytes: the paper's cell, dot by dot, is `cellByte`, and what is stored of it `pennedByte`. Assumes nothing.
 use mathlib.Core.Path.{_≡_, refl, ap, _∙_}
-use mathlib.Core.Bool.{Bool, true, false, cond, _&&_}
+use mathlib.Core.Bool.{Bool, true, false, cond, not, _&&_, _||_}
 use mathlib.Core.List.{List}
 use Prim.Native.Nat.{ℕ, zero, suc, _+_, _*_, _-_, _/_, _<_, _≤_}
 use native.Mathlib.Omega.{arith}
 use lib.Dec.{leb, ltb, eqb}
 use lib.ListN.{getD}
+use Rattle.paper.specs.declared.Module.{Module}
 use Rattle.paper.specs.declared.Style.{Style}
 use Rattle.paper.specs.Panel.{dot, byteOf, glyphByte, glyphDot}
 use Rattle.paper.specs.Strokes.{among}
-use Rattle.paper.specs.Cells.{cellDot, allOff, enlargedDots, penned}
+use Rattle.paper.specs.Cells.{blanksLeft, cellDot, allOff, enlargedDots, penned}
 use Rattle.laws_bytes.specs.Bytes.{placedByte, glyphColumn, tallByte, cellByte, pennedByte}
 use Rattle.laws_bytes.proofs.Dots.{byteOf-same, dots-of, byte-rule}
 use Rattle.laws_bytes.proofs.Penned.{penned-byte}
 
 -- ---- a column of a cell
 
--- the dots of a glyph's column: "upper 7 bits used"
-abbrev seven : ℕ → ℕ → Bool
-seven v i = cond (ltb i 7) (dot v i) false
+-- the dots of a glyph's column: framed (f), "upper 7 bits used", else all
+abbrev used : Bool → ℕ → ℕ → Bool
+used f v i = (not f || ltb i 7) && dot v i
 
--- a glyph's column on row 0 of memory (t), or on another
-placed-dot : (t : Bool) (v : ℕ) → v < 256 → (i : ℕ) → i < 8
-    → cond t (ltb i 7 && seven v i) (leb 1 i && seven v (i - 1)) ≡ dot (cond t (v / 2 * 2) (v / 2)) i
+-- a glyph's column on row 0 of memory (t), or on another, with a blank dot if it is framed (f)
+abbrev set : Bool → Bool → ℕ → ℕ → Bool
+set f t v i = cond (f && not t) (leb 1 i && used f v (i - 1)) (used f v i)
+
+placed-dot : (f t : Bool) (v : ℕ) → v < 256 → (i : ℕ) → i < 8 → set f t v i ≡ dot (cond f (cond t (v / 2 * 2) (v / 2)) v) i
 unfolding byteOf
-placed-dot true v h =
-    dots-of (λ i. ltb i 7 && seven v i) (v / 2 * 2) (byte-rule (λ n i. ltb i 7 && seven n i) (λ n. n / 2 * 2) refl v h)
-placed-dot false v h =
-    dots-of (λ i. leb 1 i && seven v (i - 1)) (v / 2) (byte-rule (λ n i. leb 1 i && seven n (i - 1)) (λ n. n / 2) refl v h)
+placed-dot true true v h =
+    dots-of (λ i. set true true v i) (v / 2 * 2) (byte-rule (λ n i. set true true n i) (λ n. n / 2 * 2) refl v h)
+placed-dot true false v h =
+    dots-of (λ i. set true false v i) (v / 2) (byte-rule (λ n i. set true false n i) (λ n. n / 2) refl v h)
+placed-dot false t v h = λ i hi. refl
 
 -- a blank column has no dot, wherever it is placed
-blank-dot : (t : Bool) (i : ℕ) → i < 8 → false ≡ dot (cond t (0 / 2 * 2) (0 / 2)) i
+blank-dot : (f t : Bool) (i : ℕ) → i < 8 → false ≡ dot (cond f (cond t (0 / 2 * 2) (0 / 2)) 0) i
 unfolding byteOf
-blank-dot true = dots-of (λ i. false) 0 refl
-blank-dot false = dots-of (λ i. false) 0 refl
+blank-dot true true = dots-of (λ i. false) 0 refl
+blank-dot true false = dots-of (λ i. false) 0 refl
+blank-dot false t = dots-of (λ i. false) 0 refl
 
--- a column that is the glyph's (t) or blank
-column-dot : (t : Bool) (row v : ℕ) → v < 256 → (i : ℕ) → i < 8
-    → (t && cond (eqb row 0) (ltb i 7 && seven v i) (leb 1 i && seven v (i - 1))) ≡ dot (placedByte row (cond t v 0)) i
-column-dot true row v h = placed-dot (eqb row 0) v h
-column-dot false row v h = blank-dot (eqb row 0)
+-- a column that is the glyph's (p) or blank
+column-dot : (g : Module) (p : Bool) (row v : ℕ) → v < 256 → (i : ℕ) → i < 8
+    → (p && set (g .framed) (eqb row 0) v i) ≡ dot (placedByte g row (cond p v 0)) i
+column-dot g true row v h = placed-dot (g .framed) (eqb row 0) v h
+column-dot g false row v h = blank-dot (g .framed) (eqb row 0)
 
 -- a glyph's column or a blank one, placed, is a byte
-column-lt : (s t : Bool) (v : ℕ) → v < 256 → cond s (cond t v 0 / 2 * 2) (cond t v 0 / 2) < 256
-column-lt true true v h = omega arith
-column-lt true false v h = omega arith
-column-lt false true v h = omega arith
-column-lt false false v h = omega arith
+column-lt : (f s t : Bool) (v : ℕ) → v < 256 → cond f (cond s (cond t v 0 / 2 * 2) (cond t v 0 / 2)) (cond t v 0) < 256
+column-lt true true true v h = omega arith
+column-lt true true false v h = omega arith
+column-lt true false true v h = omega arith
+column-lt true false false v h = omega arith
+column-lt false s true v h = h
+column-lt false s false v h = omega arith
 
 -- ---- repeated downwards
 
@@ -71,25 +78,26 @@ source-lt (suc (suc (suc down))) r i hd hr hi = absurd (omega arith)
 -- ---- a cell
 
 -- a cell of a font of bytes, at a column j and a row r of it
-module _ (font : List ℕ) (bytes : (n : ℕ) → getD font n 0 < 256) (code w : ℕ) (y : Style) (row j r : ℕ)
+module _ (g : Module) (font : List ℕ) (bytes : (n : ℕ) → getD font n 0 < 256) (code w : ℕ) (y : Style) (row j r : ℕ)
     (low : y .down ≤ 2) (inside : r < y .down) where
   -- its dots there are those of `cellByte`
-  pub cell-byte : byteOf (λ i. enlargedDots y (cellDot font code w row) j (8 * r + i)) ≡ cellByte font code w y row j r
+  pub cell-byte : byteOf (λ i. enlargedDots y (cellDot g font code w row) j (8 * r + i)) ≡ cellByte g font code w y row j r
   unfolding cellDot glyphDot cellByte
   cell-byte =
       let k = j / y .across in
-      let v = glyphByte font code (k - w) in
-      let column = placedByte row (glyphColumn font code w k) in
-      byteOf-same (λ i. cellDot font code w row k ((8 * r + i) / y .down)) (λ i. dot column ((8 * r + i) / y .down))
-      (λ i h. column-dot (among w 5 k) row v (bytes _) ((8 * r + i) / y .down) (source-lt (y .down) r i low inside h))
-      ∙ tall-byte (y .down) r column low inside (column-lt (eqb row 0) (among w 5 k) v (bytes _))
+      let left = blanksLeft g w in
+      let v = glyphByte g font code (k - left) in
+      let column = placedByte g row (glyphColumn g font code w k) in
+      byteOf-same (λ i. cellDot g font code w row k ((8 * r + i) / y .down)) (λ i. dot column ((8 * r + i) / y .down))
+      (λ i h. column-dot g (among left (g .glyph) k) row v (bytes _) ((8 * r + i) / y .down) (source-lt (y .down) r i low inside h))
+      ∙ tall-byte (y .down) r column low inside (column-lt (g .framed) (eqb row 0) (among left (g .glyph) k) v (bytes _))
 
   -- what drawing it stores there
   pub drawn-byte : (old : ℕ) → old < 256
-      → penned y (λ i. enlargedDots y (cellDot font code w row) j (8 * r + i)) old
-      ≡ pennedByte y (cellByte font code w y row j r) old
+      → penned y (λ i. enlargedDots y (cellDot g font code w row) j (8 * r + i)) old
+      ≡ pennedByte y (cellByte g font code w y row j r) old
   drawn-byte old h =
-      penned-byte y (λ i. enlargedDots y (cellDot font code w row) j (8 * r + i)) old h
+      penned-byte y (λ i. enlargedDots y (cellDot g font code w row) j (8 * r + i)) old h
       ∙ ap (λ (v : ℕ). pennedByte y v old) cell-byte
 
 -- an all-off cell, at a column j and a row r of it

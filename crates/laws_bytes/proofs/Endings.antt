@@ -8,14 +8,13 @@ use Prim.Native.Nat.{ℕ, zero, suc, _+_, _-_, _<_, _≤_}
 use native.Mathlib.Omega.{arith}
 use lib.Dec.{leb, ltb}
 use borrow.Author.Tests.{leb-true, leb-false, le-leb, lt-leb, ltb-true, lt-ltb, le-ltb}
-use Rattle.paper.specs.declared.Geometry.{Geometry}
+use Rattle.paper.specs.declared.Module.{Module}
 use Rattle.paper.specs.declared.Word.{Word}
 use Rattle.paper.specs.declared.Word.the-variants.{CursorX, CursorY, WindowLeft, WindowTop, WindowWidth, WindowHeight, ImageWidth, ImageHeight}
 use Rattle.paper.specs.declared.Half.{Half}
 use Rattle.paper.specs.declared.Half.the-variants.{Nothing, Escape, Unit, Group, Actions, Images, Characters, Windows, Value, Rest, DownloadA, DownloadFrom, DownloadTo, GlyphWidth, GlyphByte, Low, High, ImageKind, ImageData, EnlargeX, EnlargeY, SelectA, WindowA, WindowB}
 use Rattle.paper.specs.declared.Command.{Command}
 use Rattle.paper.specs.declared.Command.the-variants.{Character, Select, Initialise, Mode, Set, Enlarge, CursorSet, Define, Cancel, Uncarried}
-use Rattle.paper.specs.declared.Key.the-variants.{Width}
 use Rattle.paper.specs.declared.Reading.the-variants.{More, Whole, ImageByte, ImageEnd}
 use Rattle.paper.specs.Reading.{between, readFirst, readEscape, readUnit, readGroup, readActions, readImages, readCharacters, readWindows, readRest, readGlyphByte, readWindowB, word16, readWord, readImage, readOf}
 use Rattle.paper.specs.Bounds.{wordOk, halfOk}
@@ -46,7 +45,7 @@ sized hi low = go low (leb low hi) (leb 256 hi) refl refl where
     none m zero = refl
     none m (suc b) = over hi (word16 0 (suc b)) (omega arith)
 
-module _ (g : Geometry) where
+module _ (g : Module) where
   -- ---- bytes, one before the other
 
   -- the last byte
@@ -230,7 +229,7 @@ module _ (g : Geometry) where
     ok-finishes Group h f = inl (before 0x61 (omega arith) refl (before 0x01 (omega arith) refl (rest 1)))
     ok-finishes Actions h f = inl (before 0x01 (omega arith) refl (rest 1))
     ok-finishes Images h f = inl (before 0x11 (omega arith) refl image-width)
-    ok-finishes Characters h f = inl (before 0x03 (omega arith) refl (ends 0 (Set Width 0) (omega arith) refl))
+    ok-finishes Characters h f = inl (before 0x40 (omega arith) refl (before 1 (omega arith) refl (ends 1 (Enlarge 1 1) (omega arith) refl)))
     ok-finishes Windows h f = inl (before 0x01 (omega arith) refl (ends 0 (Select 0) (omega arith) refl))
     ok-finishes (Value key) h f = inl (ends 0 (Set key 0) (omega arith) refl)
     ok-finishes (Rest left) h f = inl (rest left)

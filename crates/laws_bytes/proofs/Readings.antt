@@ -5,14 +5,14 @@ use Prim.Native.Nat.{ℕ, _+_, _-_, _<_, _≤_}
 use native.Mathlib.Omega.{arith}
 use lib.Dec.{leb, ltb, eqb}
 use borrow.Author.Tests.{leb-true, leb-false, le-leb, ltb-true, lt-ltb, eqb-true}
-use Rattle.paper.specs.declared.Geometry.{Geometry}
+use Rattle.paper.specs.declared.Module.{Module}
 use Rattle.paper.specs.declared.Word.{Word}
 use Rattle.paper.specs.declared.Word.the-variants.{CursorX, CursorY, WindowLeft, WindowTop, WindowWidth, WindowHeight, ImageWidth, ImageHeight}
 use Rattle.paper.specs.declared.Half.{Half}
 use Rattle.paper.specs.declared.Half.the-variants.{Nothing, Escape, Unit, Group, Actions, Images, Characters, Windows, Value, Rest, DownloadA, DownloadFrom, DownloadTo, GlyphWidth, GlyphByte, Low, High, ImageKind, ImageData, EnlargeX, EnlargeY, SelectA, WindowA, WindowB}
 use Rattle.paper.specs.declared.Reading.{Reading}
 use Rattle.paper.specs.declared.Reading.the-variants.{ImageByte}
-use Rattle.paper.specs.Reading.{between, moreIf, readMove, readFirst, readEscape, readUnit, readGroup, readActions, readImages, readCharacters, readWindows, readRest, readGlyphByte, readWindowB, word16, readWord, readImage, readOf}
+use Rattle.paper.specs.Reading.{between, moreIf, readMove, readFirst, readEscape, readUnit, readGroup, readActions, readImages, readCharacters, isKnown, readWindows, readRest, readGlyphByte, readWindowB, word16, readWord, readImage, readOf}
 use Rattle.paper.specs.Bounds.{wordOk, halfOk}
 use Rattle.laws_bytes.specs.Readings.{commandOk, readingOk}
 use Rattle.laws_bytes.proofs.Tests.{both-of, between-facts, between-true}
@@ -22,7 +22,7 @@ five-or-seven : (x : ℕ) (t : Bool) → eqb x 5 ≡ t → (t || eqb x 7) ≡ tr
 five-or-seven x true e h = rw (eqb-true x 5 e)
 five-or-seven x false e h = rw (eqb-true x 7 h)
 
-module _ (g : Geometry) where
+module _ (g : Module) where
   -- an image of a size that the memory has, and a place of it
   abbrev pub InImage : ℕ → ℕ → ℕ → ℕ → Type 0
   InImage width height column row =
@@ -82,29 +82,29 @@ module _ (g : Geometry) where
       (either (eqb b 0x0C) (passes refl) (passes refl)))))
 
   -- the first byte
-  first-ok : (b : ℕ) → Passes (readFirst b)
+  first-ok : (b : ℕ) → Passes (readFirst g b)
   unfolding readFirst readingOk commandOk halfOk
   first-ok b =
       by (leb 0x20 b) passes
       (λ _. either (between 0x08 0x0D b) (move-ok b)
-      (either (between 0x10 0x14 b) (passes refl)
+      (either (between 0x10 0x14 b) (either (g .shortcuts) (passes refl) (passes refl))
       (either (eqb b 0x1B) (passes refl)
       (either (eqb b 0x1F) (passes refl) (passes refl)))))
 
   -- after 1Bh
-  escape-ok : (b : ℕ) → Passes (readEscape b)
-  unfolding readEscape readingOk commandOk halfOk
+  escape-ok : (b : ℕ) → Passes (readEscape g b)
+  unfolding readEscape readingOk commandOk halfOk isKnown
   escape-ok b =
       either (eqb b 0x40) (passes refl)
       (either (eqb b 0x52) (passes refl)
       (either (eqb b 0x74) (passes refl)
-      (either (eqb b 0x25) (passes refl)
-      (either (eqb b 0x3F) (passes refl)
-      (either (eqb b 0x26) (passes refl) (passes refl))))))
+      (either (eqb b 0x25) (either (g .downloads) (passes refl) (passes refl))
+      (either (eqb b 0x3F) (either (g .downloads) (passes refl) (passes refl))
+      (either (eqb b 0x26) (by (g .downloads) passes (λ _. passes refl)) (passes refl))))))
 
   -- after 1Fh
   unit-ok : (b : ℕ) → Passes (readUnit b)
-  unfolding readUnit readingOk commandOk halfOk wordOk
+  unfolding readUnit readingOk commandOk halfOk isKnown wordOk
   unit-ok b =
       by (between 0x01 0x03 b) passes
       (λ _. either (eqb b 0x24) (passes refl)
@@ -139,13 +139,15 @@ module _ (g : Geometry) where
   image-bytes-ok b = either (eqb b 0x11) (passes refl) (passes refl)
 
   -- after 1Fh 28h 67h
-  characters-ok : (b : ℕ) → Passes (readCharacters b)
-  unfolding readCharacters readingOk halfOk
-  characters-ok b = either (eqb b 0x03) (passes refl) (either (eqb b 0x40) (passes refl) (passes refl))
+  characters-ok : (b : ℕ) → Passes (readCharacters g b)
+  unfolding readCharacters readingOk halfOk isKnown
+  characters-ok b =
+      either (eqb b 0x03) (by (g .widths) passes (λ _. passes refl))
+      (either (eqb b 0x40) (passes refl) (passes refl))
 
   -- after 1Fh 28h 77h
   windows-ok : (b : ℕ) → Passes (readWindows b)
-  unfolding readWindows readingOk halfOk
+  unfolding readWindows readingOk halfOk isKnown
   windows-ok b =
       either (eqb b 0x01) (passes refl)
       (either (eqb b 0x02) (passes refl)
@@ -169,14 +171,16 @@ module _ (g : Geometry) where
       → halfOk g (GlyphByte code last x) ≡ true
   unfolding halfOk
   width-ok code last x h e =
-      let f = both-of (leb 0x20 code) (leb code last) h in
-      rw (f .0, f .1, five-or-seven x (eqb x 5) refl e)
+      let d = both-of (g .downloads) _ h in
+      let f = both-of (leb 0x20 code) (leb code last) (d .1) in
+      rw (d .0, f .0, f .1, five-or-seven x (eqb x 5) refl e)
 
   -- a byte of a glyph that is not carried
   glyph-ok : (code last left : ℕ) → halfOk g (GlyphByte code last left) ≡ true → Passes (readGlyphByte code last left)
   unfolding readGlyphByte readingOk commandOk halfOk
   glyph-ok code last left h =
-      let c = both-of (leb 0x20 code) _ h in
+      let d = both-of (g .downloads) _ h in
+      let c = both-of (leb 0x20 code) _ (d .1) in
       let l = both-of (leb code last) _ (c .1) in
       let f = between-facts 1 7 left (l .1) in
       by (leb left 1)
@@ -184,10 +188,10 @@ module _ (g : Geometry) where
       (λ e.
       let m = leb-false last code e in
       let o = leb-true 0x20 code (c .0) in
-      passes (rw (le-leb 0x20 (code + 1) (omega arith), le-leb (code + 1) last (omega arith)))))
+      passes (rw (d .0, le-leb 0x20 (code + 1) (omega arith), le-leb (code + 1) last (omega arith)))))
       (λ e.
       let m = leb-false left 1 e in
-      passes (rw (c .0, l .0, between-true 1 7 (left - 1) (omega arith) (omega arith))))
+      passes (rw (d .0, c .0, l .0, between-true 1 7 (left - 1) (omega arith) (omega arith))))
 
   -- a window's number is followed by which of the two
   window-ok : (a b : ℕ) → between 1 4 a ≡ true → Passes (readWindowB a b)
@@ -246,9 +250,11 @@ module _ (g : Geometry) where
   every-ok Windows b h = windows-ok b
   every-ok (Value key) b h = passes refl
   every-ok (Rest left) b h = rest-ok left h
-  every-ok DownloadA b h = if-ok (eqb b 1) DownloadFrom (λ _. refl)
-  every-ok DownloadFrom b h = if-ok (leb 0x20 b) (DownloadTo b) (λ e. e)
-  every-ok (DownloadTo from) b h = if-ok (leb from b) (GlyphWidth from b) (λ e. rw (h, e))
+  every-ok DownloadA b h = if-ok (eqb b 1) DownloadFrom (λ _. h)
+  every-ok DownloadFrom b h = if-ok (leb 0x20 b) (DownloadTo b) (λ e. rw (h, e))
+  every-ok (DownloadTo from) b h =
+      let d = both-of (g .downloads) (leb 0x20 from) h in
+      if-ok (leb from b) (GlyphWidth from b) (λ e. rw (d .0, d .1, e))
   every-ok (GlyphWidth code last) b h = if-ok (eqb b 5 || eqb b 7) (GlyphByte code last b) (λ e. width-ok code last b h e)
   every-ok (GlyphByte code last left) b h = glyph-ok code last left h
   every-ok (Low w) b h = passes h

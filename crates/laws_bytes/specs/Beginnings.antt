@@ -4,7 +4,7 @@
 use Prim.Native.Nat.{ℕ, _<_}
 use mathlib.Core.Path.{_≡_}
 use mathlib.Core.List.{List, [], _∷_, _++_}
-use Rattle.paper.specs.declared.Geometry.{Geometry}
+use Rattle.paper.specs.declared.Module.{Module}
 use Rattle.paper.specs.declared.Word.{Word}
 use Rattle.paper.specs.declared.Word.the-variants.{CursorX, CursorY, WindowLeft, WindowTop, WindowWidth, WindowHeight, ImageWidth, ImageHeight}
 use Rattle.paper.specs.declared.Half.{Half}
@@ -14,19 +14,19 @@ use Rattle.paper.specs.declared.Reading.the-variants.{More, Whole, ImageByte, I
 use Rattle.paper.specs.Reading.{readOf}
 
 -- the bytes, in the order in which they are read, begin a command, and this is half read after the last of them
-pub data Begins (g : Geometry) : List ℕ → Half → Type 0 where
+pub data Begins (g : Module) : List ℕ → Half → Type 0 where
   no-byte : Begins g [] Nothing
   one-more : {bs : List ℕ} {p q : Half} (b : ℕ) → Begins g bs p → b < 256 → readOf g p b ≡ More q → Begins g (bs ++ (b ∷ [])) q
   one-stored : {bs : List ℕ} {p q : Half} (b column row : ℕ) → Begins g bs p → b < 256 → readOf g p b ≡ ImageByte column row b q
       → Begins g (bs ++ (b ∷ [])) q
 
 -- some bytes lead to a half-read command
-pub record Beginning (g : Geometry) (p : Half) : Type 0 where
+pub record Beginning (g : Module) (p : Half) : Type 0 where
   pub bytes : List ℕ
   pub begins : Begins g bytes p
 
 -- the bytes, read one after the other, make what is half read a whole command at the last of them, and not before
-pub data Finishes (g : Geometry) : Half → List ℕ → Type 0 where
+pub data Finishes (g : Module) : Half → List ℕ → Type 0 where
   made-whole : {p : Half} (b : ℕ) (c : Command) → b < 256 → readOf g p b ≡ Whole c → Finishes g p (b ∷ [])
   last-stored : {p : Half} (b column row : ℕ) → b < 256 → readOf g p b ≡ ImageEnd column row b → Finishes g p (b ∷ [])
   then-more : {p q : Half} {bs : List ℕ} (b : ℕ) → b < 256 → readOf g p b ≡ More q → Finishes g q bs → Finishes g p (b ∷ bs)
@@ -34,13 +34,13 @@ pub data Finishes (g : Geometry) : Half → List ℕ → Type 0 where
       → Finishes g p (b ∷ bs)
 
 -- some bytes lead from a half-read command to a whole one
-pub record Finished (g : Geometry) (p : Half) : Type 0 where
+pub record Finished (g : Module) (p : Half) : Type 0 where
   pub bytes : List ℕ
   pub finishes : Finishes g p bytes
 
 -- "A bad size cancels when its high byte arrives", and not before: an image's size whose low byte has come and which is bad with
 -- every high byte
-pub data BadSize (g : Geometry) : Half → Type 0 where
+pub data BadSize (g : Module) : Half → Type 0 where
   bad-width : (low : ℕ) → ((b : ℕ) → readOf g (High ImageWidth low) b ≡ Cancels) → BadSize g (High ImageWidth low)
   bad-height : (width low : ℕ) → ((b : ℕ) → readOf g (High (ImageHeight width) low) b ≡ Cancels)
       → BadSize g (High (ImageHeight width) low)

@@ -5,17 +5,20 @@ use mathlib.Core.Bool.{cond}
 use mathlib.Core.List.{List}
 use lib.Dec.{eqb}
 use lib.Bits.{bitAnd, bitOr, bitXor}
+use Rattle.paper.specs.declared.Module.{Module}
 use Rattle.paper.specs.declared.Style.{Style}
 use Rattle.paper.specs.Panel.{glyphByte}
 use Rattle.paper.specs.Strokes.{among}
+use Rattle.paper.specs.Cells.{blanksLeft}
 
--- a glyph's column on a row of memory: on row 0 its 7 dots on top, on another row below the blank dot
-abbrev pub placedByte : ℕ → ℕ → ℕ
-placedByte row v = cond (eqb row 0) (v / 2 * 2) (v / 2)
+-- a glyph's column on a row of memory: framed, its 7 dots on top on row 0, on another row below the blank dot; else as it is
+abbrev pub placedByte : Module → ℕ → ℕ → ℕ
+placedByte g row v = cond (g .framed) (cond (eqb row 0) (v / 2 * 2) (v / 2)) v
 
--- column k of a code's cell before it is placed: w blank columns, the glyph's five, then blank
-abbrev pub glyphColumn : List ℕ → ℕ → ℕ → ℕ → ℕ
-glyphColumn font code w k = cond (among w 5 k) (glyphByte font code (k - w)) 0
+-- column k of a code's cell before it is placed: the blank columns on the left, the glyph's, then blank
+abbrev pub glyphColumn : Module → List ℕ → ℕ → ℕ → ℕ → ℕ
+glyphColumn g font code w k =
+    cond (among (blanksLeft g w) (g .glyph) k) (glyphByte g font code (k - blanksLeft g w)) 0
 
 -- a byte of the four lowest dots of n, each twice
 abbrev pub double : ℕ → ℕ
@@ -26,8 +29,8 @@ abbrev pub tallByte : ℕ → ℕ → ℕ → ℕ
 tallByte down r v = cond (eqb down 1) v (cond (eqb r 0) (double (v / 16)) (double (v % 16)))
 
 -- column j and row r of a code's cell, the cursor on a row of memory, before reverse and mixing
-unfoldable pub cellByte : List ℕ → ℕ → ℕ → Style → ℕ → ℕ → ℕ → ℕ
-cellByte font code w y row j r = tallByte (y .down) r (placedByte row (glyphColumn font code w (j / y .across)))
+unfoldable pub cellByte : Module → List ℕ → ℕ → ℕ → Style → ℕ → ℕ → ℕ → ℕ
+cellByte g font code w y row j r = tallByte (y .down) r (placedByte g row (glyphColumn g font code w (j / y .across)))
 
 -- all dots of a byte inverted, if the style says so
 abbrev pub reversedByte : Style → ℕ → ℕ

@@ -2,7 +2,7 @@
 -- That every reading of an accepted half-read command passes it is proved in proofs/Readings.antt.
 use mathlib.Core.Bool.{Bool, true, _&&_}
 use lib.Dec.{leb, ltb}
-use Rattle.paper.specs.declared.Geometry.{Geometry}
+use Rattle.paper.specs.declared.Module.{Module}
 use Rattle.paper.specs.declared.Command.{Command}
 use Rattle.paper.specs.declared.Command.the-variants.{Character, Back, Tab, LineFeed, Home, Clear, Return, Select, Initialise, Mode, Set, Enlarge, CursorSet, Define, Cancel, Uncarried}
 use Rattle.paper.specs.declared.Reading.{Reading}
@@ -31,7 +31,7 @@ commandOk (Cancel a) = between 1 4 a
 commandOk Uncarried = true
 
 -- what a byte gives: what is half read next is accepted, a whole command passes, an image byte's place is one of the memory's
-unfoldable pub readingOk : Geometry → Reading → Bool
+unfoldable pub readingOk : Module → Reading → Bool
 readingOk g (More p) = halfOk g p
 readingOk g (Whole c) = commandOk c
 readingOk g (ImageByte column row b next) = ltb column (g .columns) && (ltb row (g .rows) && halfOk g next)

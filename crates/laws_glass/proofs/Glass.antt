@@ -8,7 +8,7 @@ use native.Mathlib.Omega.{arith}
 use lib.Dec.{ltb, lt→ltb, eqb→eq}
 use lib.ListN.{length, getD, take}
 use lib.Seq.{ext-getD, length-take-le, getD-take}
-use Rattle.paper.specs.declared.Geometry.{Geometry}
+use Rattle.paper.specs.declared.Module.{Module}
 use Rattle.paper.specs.declared.Rect.{Rect}
 use Rattle.paper.specs.declared.Span.{Span}
 use Rattle.paper.specs.Panel.{columnOf, rowOf, glassLength}
@@ -53,7 +53,7 @@ module _ (q : Rect) (y : ℕ) (p : Span) (x : ℕ) where
       (grown-new p (q .left) (q .left + q .width) x hl hr)
 
 -- the span of an address's row after a rectangle is marked
-module _ (g : Geometry) (ps : List Span) (q : Rect) (a : ℕ) (rows : length ps ≡ g .rows) (l : a < glassLength g) where
+module _ (g : Module) (ps : List Span) (q : Rect) (a : ℕ) (rows : length ps ≡ g .rows) (l : a < glassLength g) where
   covered-by : Holds (grownBy q (rowOf g a) (getD ps (rowOf g a) noSpan)) (columnOf g a) → Covered g (markRect q ps) a
   covered-by h = let k = row-lt g a (g .visible) l in rw (getD-marked q ps (rowOf g a) (omega arith)) h
 
@@ -66,14 +66,14 @@ module _ (g : Geometry) (ps : List Span) (q : Rect) (a : ℕ) (rows : length ps 
 
 -- ---- strokes
 
-not-covered : (g : Geometry) (ps : List Span) (a : ℕ) → (Covered g ps a → ⊥) → covered g ps a ≡ false
+not-covered : (g : Module) (ps : List Span) (a : ℕ) → (Covered g ps a → ⊥) → covered g ps a ≡ false
 not-covered g ps a o = is-false (covered g ps a) (λ t. o (covered-facts g ps a t))
 
-covered-not : (g : Geometry) (ps : List Span) (a : ℕ) → covered g ps a ≡ false → Covered g ps a → ⊥
+covered-not : (g : Module) (ps : List Span) (a : ℕ) → covered g ps a ≡ false → Covered g ps a → ⊥
 covered-not g ps a e h = not-both (covered g ps a) e (covered-test g ps a h)
 
 -- a stroke with its growth
-pub stroke-synced : (g : Geometry) (m glass : List ℕ) (ps : List Span) (s : Stroke) → length ps ≡ g .rows
+pub stroke-synced : (g : Module) (m glass : List ℕ) (ps : List Span) (s : Stroke) → length ps ≡ g .rows
     → glassLength g ≤ length m → Synced g m glass ps → Synced g (applied g m s) glass (marked ps s)
 stroke-synced g m glass ps s rows size synced a l e =
     let free = covered-not g (marked ps s) a e in
@@ -81,7 +81,7 @@ stroke-synced g m glass ps s rows size synced a l e =
     ∙ sym (applied-out g m s a (omega arith) (λ i. free (covered-new g ps (s .rect) a rows l i)))
 
 -- strokes with their growth
-pub strokes-synced : (g : Geometry) (m glass : List ℕ) (ps : List Span) (ss : List Stroke) → length ps ≡ g .rows
+pub strokes-synced : (g : Module) (m glass : List ℕ) (ps : List Span) (ss : List Stroke) → length ps ≡ g .rows
     → glassLength g ≤ length m → Synced g m glass ps → Synced g (applyAll g m ss) glass (markAll ps ss)
 strokes-synced g m glass ps [] rows size synced = synced
 strokes-synced g m glass ps (s ∷ ss) rows size synced =
@@ -89,7 +89,7 @@ strokes-synced g m glass ps (s ∷ ss) rows size synced =
     (omega (arith, applied-length g m s)) (stroke-synced g m glass ps s rows size synced)
 
 -- all memory marked: any glass is in step with any memory
-pub erased-synced : (g : Geometry) (m glass : List ℕ) (ps : List Span) → length ps ≡ g .rows → g .visible ≤ g .columns
+pub erased-synced : (g : Module) (m glass : List ℕ) (ps : List Span) → length ps ≡ g .rows → g .visible ≤ g .columns
     → Synced g m glass (marked ps (eraseStroke g))
 erased-synced g m glass ps rows wide a l e =
     let column = column-lt g a (g .visible) l in
@@ -98,7 +98,7 @@ erased-synced g m glass ps rows wide a l e =
 
 -- ---- refresh
 
-module _ (g : Geometry) (m glass : List ℕ) (ps : List Span) (size : length glass ≡ glassLength g) where
+module _ (g : Module) (m glass : List ℕ) (ps : List Span) (size : length glass ≡ glassLength g) where
   shows : Synced g m glass ps → (a : ℕ) → a < glassLength g → getD (refreshed g m ps glass) a 0 ≡ getD m a 0
   shows synced a l =
       test-cases (covered g ps a) (λ t. refreshed-in g m ps glass a (omega arith) (covered-facts g ps a t))

@@ -7,7 +7,7 @@ use native.Mathlib.Omega.{arith}
 use lib.Dec.{leb, eqb}
 use lib.ListN.{length, replicate}
 use borrow.Author.Tests.{le-leb}
-use Rattle.paper.specs.declared.Geometry.{Geometry}
+use Rattle.paper.specs.declared.Module.{Module}
 use Rattle.paper.specs.declared.Style.{Style}
 use Rattle.paper.specs.declared.Span.{Span}
 use Rattle.paper.specs.declared.View.{View}
@@ -47,15 +47,15 @@ then-alike t f h a =
           (a (t .view) .spans (markAll ps (t .strokes)));
     }
 
-module _ (g : Geometry) (font : List ℕ) where
+module _ (g : Module) (font : List ℕ) where
   module _ (w : ℕ) (y : Style) (c d : ℕ) where
     -- a cell is as large whatever its code
     cell-marks : (v : View) (r : ℕ) (ps : List Span)
-        → markFrom (drawStroke font w y c v .rect) r ps ≡ markFrom (drawStroke font w y d v .rect) r ps
+        → markFrom (drawStroke g font w y c v .rect) r ps ≡ markFrom (drawStroke g font w y d v .rect) r ps
     unfolding grownBy
     cell-marks v r [] = refl
     cell-marks v r (p ∷ ps) =
-        ap (λ (l : List Span). grownBy (drawStroke font w y c v .rect) r p ∷ l) (cell-marks v (suc r) ps)
+        ap (λ (l : List Span). grownBy (drawStroke g font w y c v .rect) r p ∷ l) (cell-marks v (suc r) ps)
 
     -- draw, HT
     draw-alike : (v : View) → Alike (drawTab g font w y c v) (drawTab g font w y d v)
@@ -64,16 +64,16 @@ module _ (g : Geometry) (font : List ℕ) where
         record {
           view = refl;
           spans = λ ps.
-              ap (λ (l : List Span). markAll l (htOf g v (cellWidth w y) (cellHeight y) .strokes)) (cell-marks v 0 ps);
+              ap (λ (l : List Span). markAll l (htOf g v (cellWidth g w y) (cellHeight y) .strokes)) (cell-marks v 0 ps);
         }
 
     -- a character
     character-alike : (v : View) → Alike (characterOf g font w y c v) (characterOf g font w y d v)
     unfolding characterOf
     character-alike v =
-        by-test (leb (v .x + cellWidth w y) (v .width)) (draw-alike v)
+        by-test (leb (v .x + cellWidth g w y) (v .width)) (draw-alike v)
         (by-test (eqb (v .mode) 3)
-        (then-alike (htOf g v (cellWidth w y) (cellHeight y)) (drawTab g font w y c) (drawTab g font w y d) draw-alike)
+        (then-alike (htOf g v (cellWidth g w y) (cellHeight y)) (drawTab g font w y c) (drawTab g font w y d) draw-alike)
         (then-alike (blankTab g w y v) (drawTab g font w y c) (drawTab g font w y d) draw-alike))
 
   -- the state that moves alike leave

@@ -3,10 +3,10 @@ use mathlib.Core.Path.{_≡_, sym, ap, ap₂, _∙_}
 use Prim.Native.Nat.{ℕ, zero, suc, _+_, _*_, _<_}
 use native.Mathlib.Nat.{add-zero, div-add-mod, mul-add-div, mul-add-mod-self-left, mod-eq-of-lt, div-eq-of-lt, mod-lt, mul-le-mul-left, lt-of-mul-lt-mul-left}
 use native.Mathlib.Omega.{arith}
-use Rattle.paper.specs.declared.Geometry.{Geometry}
+use Rattle.paper.specs.declared.Module.{Module}
 use Rattle.paper.specs.Panel.{address, columnOf, rowOf}
 
-module _ (g : Geometry) (x y : ℕ) (hy : y < g .rows) where
+module _ (g : Module) (x y : ℕ) (hy : y < g .rows) where
   pub column-at : columnOf g (address g x y) ≡ x
   column-at = mul-add-div (omega arith) x y ∙ ap (λ (k : ℕ). x + k) (div-eq-of-lt hy) ∙ add-zero x
 
@@ -17,7 +17,7 @@ module _ (g : Geometry) (x y : ℕ) (hy : y < g .rows) where
   pub address-lt : (columns : ℕ) → x < columns → address g x y < g .rows * columns
   address-lt columns hx = omega (arith, mul-le-mul-left (g .rows) hx)
 
-module _ (g : Geometry) (a : ℕ) where
+module _ (g : Module) (a : ℕ) where
   -- an address is that of its column and its row
   pub at-place : (x y : ℕ) → columnOf g a ≡ x → rowOf g a ≡ y → a ≡ address g x y
   at-place x y p q = sym (div-add-mod a (g .rows)) ∙ ap₂ (address g) p q

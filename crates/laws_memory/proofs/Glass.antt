@@ -9,7 +9,7 @@ use native.Mathlib.Omega.{arith}
 use lib.Dec.{T, leb, ltb, leb→le, ltb→lt, le→leb, lt→ltb}
 use lib.ListN.{length, getD, take, length-take, List·getD-eq-default}
 use lib.Seq.{take-suc, getD-take}
-use Rattle.paper.specs.declared.Geometry.{Geometry}
+use Rattle.paper.specs.declared.Module.{Module}
 use Rattle.paper.specs.declared.Span.{Span}
 use Rattle.paper.specs.Panel.{columnOf, rowOf, glassLength}
 use Rattle.paper.specs.Strokes.{rectAt, noSpan, spanHolds, refreshed, shown, shownAll}
@@ -35,10 +35,10 @@ module _ (p : Span) (x : ℕ) where
   span-test h = and-i (leb (p .first) x) (ltb x (p .end)) (le→leb (p .first) x (h .0)) (lt→ltb x (p .end) (h .1))
 
 -- x is one of the visible columns of a span
-abbrev Seen : Geometry → Span → ℕ → Type 0
+abbrev Seen : Module → Span → ℕ → Type 0
 Seen g p x = (p .first ≤ x) × (x < p .first + shown g p)
 
-module _ (g : Geometry) (p : Span) where
+module _ (g : Module) (p : Span) where
   -- a visible column of a span is visible
   pub shown-lt : (j : ℕ) → j < shown g p → p .first + j < g .visible
   unfolding shown
@@ -74,7 +74,7 @@ take-past ps y = List·getD-eq-default (take y ps) noSpan {n = y} (omega (arith,
 -- ---- refresh
 
 -- the span of an address's row holds its column
-module _ (g : Geometry) (ps : List Span) (a : ℕ) where
+module _ (g : Module) (ps : List Span) (a : ℕ) where
   abbrev pub covered : Bool
   covered = spanHolds (getD ps (rowOf g a) noSpan) (columnOf g a)
 
@@ -87,7 +87,7 @@ module _ (g : Geometry) (ps : List Span) (a : ℕ) where
   pub covered-test : Covered → T covered
   covered-test = span-test (getD ps (rowOf g a) noSpan) (columnOf g a)
 
-module _ (g : Geometry) (m : List ℕ) (ps : List Span) (glass : List ℕ) where
+module _ (g : Module) (m : List ℕ) (ps : List Span) (glass : List ℕ) where
   pub refreshed-length : length (refreshed g m ps glass) ≡ length glass
   unfolding refreshed
   refreshed-length = length-each _ glass
@@ -116,12 +116,12 @@ module _ (g : Geometry) (m : List ℕ) (ps : List Span) (glass : List ℕ) where
       (λ t. outside a k (λ h. t (covered-test g ps a h)) ∙ sym (cond-no (covered g ps a) _ _ t)))
 
 -- no span, no change
-pub refreshed-none : (g : Geometry) (m glass : List ℕ) → glass ≡ refreshed g m [] glass
+pub refreshed-none : (g : Module) (m glass : List ℕ) → glass ≡ refreshed g m [] glass
 refreshed-none g m glass = refreshed-by g m [] glass glass refl (λ a l h. absurd (omega arith)) (λ a l o. refl)
 
 -- ---- one row
 
-module _ (g : Geometry) (m : List ℕ) (y : ℕ) (p : Span) (glass : List ℕ) where
+module _ (g : Module) (m : List ℕ) (y : ℕ) (p : Span) (glass : List ℕ) where
   copied-length : length (copied g m y p glass) ≡ length glass
   unfolding copied
   copied-length = rect-length g (rectAt (p .first) y (shown g p) 1) _ glass
@@ -138,7 +138,7 @@ module _ (g : Geometry) (m : List ℕ) (y : ℕ) (p : Span) (glass : List ℕ) w
   unfolding copied
   copied-out a l o = rect-out g (rectAt (p .first) y (shown g p) 1) _ glass a l (λ i. o (omega arith) (i .0, i .1))
 
-refreshed-more : (g : Geometry) (m : List ℕ) (ps : List Span) (y : ℕ) (glass : List ℕ) → length glass ≡ glassLength g
+refreshed-more : (g : Module) (m : List ℕ) (ps : List Span) (y : ℕ) (glass : List ℕ) → length glass ≡ glassLength g
     → copied g m y (getD ps y noSpan) (refreshed g m (take y ps) glass) ≡ refreshed g m (take (suc y) ps) glass
 refreshed-more g m ps y glass size =
     refreshed-by g m (take (suc y) ps) glass (copied g m y p cur) (copied-length g m y p cur ∙ len)
@@ -175,31 +175,31 @@ refreshed-more g m ps y glass size =
     nothing a h = omega arith
 
 -- a turn of the refresh: one row more
-pub refreshed-turn : (g : Geometry) (m : List ℕ) (ps : List Span) (y : ℕ) (glass cur next : List ℕ)
+pub refreshed-turn : (g : Module) (m : List ℕ) (ps : List Span) (y : ℕ) (glass cur next : List ℕ)
     → length glass ≡ glassLength g → cur ≡ refreshed g m (take y ps) glass → next ≡ copied g m y (getD ps y noSpan) cur
     → next ≡ refreshed g m (take (y + 1) ps) glass
 refreshed-turn g m ps y glass cur next size e e′ = e′ ∙ rw (e, add-one) (refreshed-more g m ps y glass size)
 
 -- ---- what a refresh counts
 
-shown-append : (g : Geometry) (ps qs : List Span) → shownAll g (ps ++ qs) ≡ shownAll g ps + shownAll g qs
+shown-append : (g : Module) (ps qs : List Span) → shownAll g (ps ++ qs) ≡ shownAll g ps + shownAll g qs
 shown-append g [] qs = sym (zero-add (shownAll g qs))
 shown-append g (p ∷ ps) qs =
     ap (λ (n : ℕ). shown g p + n) (shown-append g ps qs) ∙ sym (add-assoc (shown g p) (shownAll g ps) (shownAll g qs))
 
 -- one row more
-pub shown-turn : (g : Geometry) (ps : List Span) (y moved n : ℕ) → y < length ps → moved ≡ shownAll g (take y ps)
+pub shown-turn : (g : Module) (ps : List Span) (y moved n : ℕ) → y < length ps → moved ≡ shownAll g (take y ps)
     → n ≡ shown g (getD ps y noSpan) → moved + n ≡ shownAll g (take (y + 1) ps)
 shown-turn g ps y moved n hy e e′ =
     rw (e, e′, add-one, take-suc ps y noSpan hy, shown-append)
     (ap (λ (n : ℕ). shownAll g (take y ps) + n) (sym (add-zero (shown g (getD ps y noSpan)))))
 
 -- "224 at most": no more than the glass has
-pub shown-most : (g : Geometry) (ps : List Span) → shownAll g ps ≤ length ps * g .visible
+pub shown-most : (g : Module) (ps : List Span) → shownAll g ps ≤ length ps * g .visible
 shown-most g [] = omega arith
 shown-most g (p ∷ ps) = omega (arith, shown-le g p, shown-most g ps)
 
 -- few enough that a count of them fits a number
-pub visible-small : (g : Geometry) (m glass : List ℕ) → 0 < g .rows → Shows g m glass → g .visible ≤ 65536
+pub visible-small : (g : Module) (m glass : List ℕ) → 0 < g .rows → Shows g m glass → g .visible ≤ 65536
 visible-small g m glass h k =
     omega (arith, rw (mul-comm (g .columns) (g .rows)) at (le-mul-of-pos-right (g .columns) h), k .fits .small)

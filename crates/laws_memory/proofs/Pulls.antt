@@ -6,7 +6,7 @@ use Prim.Native.Nat.{ℕ, _+_, _<_, min}
 use native.Mathlib.Omega.{arith}
 use lib.Dec.{ltb, ltb→lt, lt→ltb}
 use lib.ListN.{length, getD, set}
-use Rattle.paper.specs.declared.Geometry.{Geometry}
+use Rattle.paper.specs.declared.Module.{Module}
 use Rattle.paper.specs.Panel.{address}
 use Rattle.paper.specs.Strokes.{rectAt, rectMap}
 use Rattle.laws_memory.specs.Rectangles.{Fits, Within, cleared, pulled, scrolledUp, movedLeft}
@@ -16,7 +16,7 @@ use Rattle.laws_memory.proofs.Rects.{Change, rect-elsewhere, rect-besid
 
 -- ---- the turns
 
-module _ (g : Geometry) (m : List ℕ) (fits : Fits g m) (left right down : ℕ) where
+module _ (g : Module) (m : List ℕ) (fits : Fits g m) (left right down : ℕ) where
   -- a place is in the memory
   place-in : (x y : ℕ) → x < g .columns → y < g .rows → address g x y < length m
   place-in x y hx hy = omega (arith, address-lt g x y hy (g .columns) hx)
@@ -67,7 +67,7 @@ module _ (g : Geometry) (m : List ℕ) (fits : Fits g m) (left right down : ℕ)
 abbrev pub Parts : ℕ → ℕ → ℕ → ℕ → Type 0
 Parts size n kept gone = (gone ≡ min n size) × (kept + gone ≡ size)
 
-module _ (g : Geometry) (m cur end : List ℕ) (left top w h n kept gone : ℕ) where
+module _ (g : Module) (m cur end : List ℕ) (left top w h n kept gone : ℕ) where
   -- the rows that are kept, taken from below, and zeros under them
   pub scrolled-parts : Parts h n kept gone → cur ≡ pulled g (rectAt left top w kept) 0 gone m
       → end ≡ cleared g (rectAt left (top + kept) w gone) cur → end ≡ scrolledUp g (rectAt left top w h) n m

@@ -8,7 +8,7 @@ use native.Mathlib.Omega.{arith}
 use lib.Dec.{T}
 use lib.ListN.{length, getD, set, length-set}
 use lib.Seq.{getD-set-same, getD-set-other}
-use Rattle.paper.specs.declared.Geometry.{Geometry}
+use Rattle.paper.specs.declared.Module.{Module}
 use Rattle.paper.specs.declared.Rect.{Rect}
 use Rattle.paper.specs.Panel.{address, columnOf, rowOf}
 use Rattle.paper.specs.Strokes.{among, rectAt, inRect, rectMap}
@@ -21,15 +21,15 @@ abbrev pub Change : Type 0
 Change = ℕ → ℕ → ℕ → ℕ
 
 -- what a change of the rectangle makes of the byte b at address a
-abbrev pub changed : Geometry → Rect → Change → ℕ → ℕ → ℕ
+abbrev pub changed : Module → Rect → Change → ℕ → ℕ → ℕ
 changed g q f a b = f (columnOf g a - q .left) (rowOf g a - q .top) b
 
 -- address a lies in the rectangle
-abbrev pub InRect : Geometry → Rect → ℕ → Type 0
+abbrev pub InRect : Module → Rect → ℕ → Type 0
 InRect g q a =
     (q .left ≤ columnOf g a) × (columnOf g a < q .left + q .width) × (q .top ≤ rowOf g a) × (rowOf g a < q .top + q .height)
 
-module _ (g : Geometry) (q : Rect) (a : ℕ) where
+module _ (g : Module) (q : Rect) (a : ℕ) where
   pub rect-facts : T (inRect g q a) → InRect g q a
   rect-facts t =
       let x = among-facts (q .left) (q .width) (columnOf g a) (and-0 (among (q .left) (q .width) (columnOf g a)) (among (q .top) (q .height) (rowOf g a)) t) in
@@ -47,7 +47,7 @@ module _ (g : Geometry) (q : Rect) (a : ℕ) where
 
 -- ---- one rectangle
 
-module _ (g : Geometry) (q : Rect) (f : Change) (m : List ℕ) where
+module _ (g : Module) (q : Rect) (f : Change) (m : List ℕ) where
   pub rect-length : length (rectMap g q f m) ≡ length m
   unfolding rectMap
   rect-length = length-each _ m
@@ -97,7 +97,7 @@ module _ (g : Geometry) (q : Rect) (f : Change) (m : List ℕ) where
       ap (λ (t : List ℕ). getD t (address g x y) 0) e ∙ rect-out (address g x y) l (λ i. o (omega arith))
 
 -- changes that agree inside the rectangle give the same memory
-pub rect-same : (g : Geometry) (q : Rect) (f k : Change) (m : List ℕ)
+pub rect-same : (g : Module) (q : Rect) (f k : Change) (m : List ℕ)
     → ((j r : ℕ) → j < q .width → r < q .height
     → let b = getD m (address g (q .left + j) (q .top + r)) 0 in f j r b ≡ k j r b)
     → rectMap g q f m ≡ rectMap g q k m
@@ -115,7 +115,7 @@ rect-same g q f k m e =
 -- ---- two rectangles
 
 -- a rectangle, then another apart from it, as the one rectangle that they make up
-module _ (g : Geometry) (q q′ q″ : Rect) (f f′ k : Change) where
+module _ (g : Module) (q q′ q″ : Rect) (f f′ k : Change) where
   abbrev First : ℕ → Type 0
   First a = InRect g q a
 
@@ -151,7 +151,7 @@ module _ (g : Geometry) (q q′ q″ : Rect) (f f′ k : Change) where
       unchanged a l o = rect-out g q′ f′ n a (there a l) o
 
 -- side by side
-pub rect-beside : (g : Geometry) (left top w w′ h : ℕ) (f f′ k : Change) (m : List ℕ)
+pub rect-beside : (g : Module) (left top w w′ h : ℕ) (f f′ k : Change) (m : List ℕ)
     → ((j r b : ℕ) → j < w → r < h → f j r b ≡ k j r b)
     → ((j r b : ℕ) → j < w′ → r < h → f′ j r b ≡ k (w + j) r b)
     → rectMap g (rectAt (left + w) top w′ h) f′ (rectMap g (rectAt left top w h) f m) ≡ rectMap g (rectAt left top (w + w′) h) k m
@@ -165,7 +165,7 @@ rect-beside g left top w w′ h f f′ k m e e′ =
     )) m
 
 -- one below the other
-pub rect-below : (g : Geometry) (left top w h h′ : ℕ) (f f′ k : Change) (m : List ℕ)
+pub rect-below : (g : Module) (left top w h h′ : ℕ) (f f′ k : Change) (m : List ℕ)
     → ((j r b : ℕ) → j < w → r < h → f j r b ≡ k j r b)
     → ((j r b : ℕ) → j < w → r < h′ → f′ j r b ≡ k j (h + r) b)
     → rectMap g (rectAt left (top + h) w h′) f′ (rectMap g (rectAt left top w h) f m) ≡ rectMap g (rectAt left top w (h + h′)) k m
@@ -181,7 +181,7 @@ rect-below g left top w h h′ f f′ k m e e′ =
 -- ---- one byte
 
 -- one byte stored is a rectangle of one
-pub rect-one : (g : Geometry) (x y : ℕ) (f : Change) (m : List ℕ) (v : ℕ) → y < g .rows → address g x y < length m
+pub rect-one : (g : Module) (x y : ℕ) (f : Change) (m : List ℕ) (v : ℕ) → y < g .rows → address g x y < length m
     → v ≡ f 0 0 (getD m (address g x y) 0) → set m (address g x y) v ≡ rectMap g (rectAt x y 1 1) f m
 rect-one g x y f m v hy l e =
     rect-by g (rectAt x y 1 1) f m (set m here v) (length-set m here v)
@@ -204,7 +204,7 @@ rect-one g x y f m v hy l e =
 -- ---- the turns of loops
 
 -- a store at the next column of a row
-pub row-turn : (g : Geometry) (left y j : ℕ) (f : Change) (m cur : List ℕ) (a v : ℕ) → a ≡ address g (left + j) y
+pub row-turn : (g : Module) (left y j : ℕ) (f : Change) (m cur : List ℕ) (a v : ℕ) → a ≡ address g (left + j) y
     → cur ≡ rectMap g (rectAt left y j 1) f m → y < g .rows → a < length cur → v ≡ f j 0 (getD cur a 0)
     → set cur a v ≡ rectMap g (rectAt left y (j + 1) 1) f m
 row-turn g left y j f m cur a v ea e hy l ev =
@@ -218,7 +218,7 @@ row-turn g left y j f m cur a v ea e hy l ev =
     next i r b = f (j + i) r b
 
 -- a row more of a rectangle
-pub rect-turn : (g : Geometry) (left top w r : ℕ) (f f′ : Change) (m cur next : List ℕ) → cur ≡ rectMap g (rectAt left top w r) f m
+pub rect-turn : (g : Module) (left top w r : ℕ) (f f′ : Change) (m cur next : List ℕ) → cur ≡ rectMap g (rectAt left top w r) f m
     → next ≡ rectMap g (rectAt left (top + r) w 1) f′ cur → ((j b : ℕ) → j < w → f′ j 0 b ≡ f j r b)
     → next ≡ rectMap g (rectAt left top w (r + 1)) f m
 rect-turn g left top w r f f′ m cur next e e′ h =
@@ -227,10 +227,10 @@ rect-turn g left top w r f f′ m cur next e e′ h =
     (λ j i b hj hi. ap (λ (i : ℕ). f′ j i b) (omega arith) ∙ h j b hj ∙ ap (λ (i : ℕ). f j i b) (omega arith))
 
 -- the loop is over
-pub row-end : (g : Geometry) (left y j w : ℕ) (f : Change) (m cur : List ℕ) → cur ≡ rectMap g (rectAt left y j 1) f m
+pub row-end : (g : Module) (left y j w : ℕ) (f : Change) (m cur : List ℕ) → cur ≡ rectMap g (rectAt left y j 1) f m
     → j ≤ w → w ≤ j → cur ≡ rectMap g (rectAt left y w 1) f m
 row-end g left y j w f m cur e p q = e ∙ ap (λ (n : ℕ). rectMap g (rectAt left y n 1) f m) (le-antisymm p q)
 
-pub rect-end : (g : Geometry) (left top w r h : ℕ) (f : Change) (m cur : List ℕ) → cur ≡ rectMap g (rectAt left top w r) f m
+pub rect-end : (g : Module) (left top w r h : ℕ) (f : Change) (m cur : List ℕ) → cur ≡ rectMap g (rectAt left top w r) f m
     → r ≤ h → h ≤ r → cur ≡ rectMap g (rectAt left top w h) f m
 rect-end g left top w r h f m cur e p q = e ∙ ap (λ (n : ℕ). rectMap g (rectAt left top w n) f m) (le-antisymm p q)

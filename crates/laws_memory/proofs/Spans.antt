@@ -8,7 +8,7 @@ use native.Mathlib.Omega.{arith}
 use lib.Dec.{ltb, eqb, ltb→lt}
 use lib.ListN.{length, getD}
 use borrow.Author.Tests.{lt-ltb, le-leb, ne-eqb, leb-true}
-use Rattle.paper.specs.declared.Geometry.{Geometry}
+use Rattle.paper.specs.declared.Module.{Module}
 use Rattle.paper.specs.declared.Rect.{Rect}
 use Rattle.paper.specs.declared.Span.{Span}
 use Rattle.paper.specs.Strokes.{Stroke, noSpan, spanOf, isNothing, among, grown, grownBy, markFrom, markRect, marked, markAll}
@@ -58,19 +58,19 @@ marks-append ps (s ∷ ss) ts = marks-append (marked ps s) ss ts
 -- ---- bounds
 
 -- a span that is in its bounds ends in the memory
-pub span-within : (g : Geometry) (p : Span) → spanOk g p ≡ true → p .end ≤ g .columns
+pub span-within : (g : Module) (p : Span) → spanOk g p ≡ true → p .end ≤ g .columns
 unfolding spanOk
 span-within g p e =
     eq-cases (p .end) 0 (λ z. omega arith)
     (λ nz. leb-true _ _ (and-parts (ltb (p .first) (p .end)) _ (rw (ne-eqb _ _ nz, and-false) at e) .1))
 
-span-made : (g : Geometry) (first end : ℕ) → first < end → end ≤ g .columns → spanOk g (spanOf first end) ≡ true
+span-made : (g : Module) (first end : ℕ) → first < end → end ≤ g .columns → spanOk g (spanOf first end) ≡ true
 unfolding spanOk
 span-made g first end hf he =
     rw (lt-ltb first end hf, le-leb end (g .columns) he) (or-true (eqb first 0 && eqb end 0))
 
 -- columns inside the memory keep a span in its bounds
-pub grown-ok : (g : Geometry) (p : Span) (first end : ℕ) → spanOk g p ≡ true → first < end → end ≤ g .columns
+pub grown-ok : (g : Module) (p : Span) (first end : ℕ) → spanOk g p ≡ true → first < end → end ≤ g .columns
     → spanOk g (grown p first end) ≡ true
 unfolding grown
 grown-ok g p first end e hf he =
@@ -78,7 +78,7 @@ grown-ok g p first end e hf he =
     cond-cases (λ (q : Span). spanOk g q ≡ true) (isNothing p) (λ t. span-made g first end hf he)
     (λ t. span-made g (min (p .first) first) (max (p .end) end) (omega arith) (omega arith))
 
-grown-by-ok : (g : Geometry) (q : Rect) (y : ℕ) (p : Span) → q .left + q .width ≤ g .columns → spanOk g p ≡ true
+grown-by-ok : (g : Module) (q : Rect) (y : ℕ) (p : Span) → q .left + q .width ≤ g .columns → spanOk g p ≡ true
     → spanOk g (grownBy q y p) ≡ true
 unfolding grownBy
 grown-by-ok g q y p h e =
@@ -87,7 +87,7 @@ grown-by-ok g q y p h e =
     grown-ok g p (q .left) (q .left + q .width) e (omega arith) h) (λ t. e)
 
 -- a rectangle inside the memory keeps all of them so
-pub marked-ok : (g : Geometry) (q : Rect) (ps : List Span) → q .left + q .width ≤ g .columns → spansOk g ps ≡ true
+pub marked-ok : (g : Module) (q : Rect) (ps : List Span) → q .left + q .width ≤ g .columns → spansOk g ps ≡ true
     → spansOk g (markRect q ps) ≡ true
 marked-ok g q ps h e = go 0 ps e
   where

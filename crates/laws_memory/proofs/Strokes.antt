@@ -3,7 +3,7 @@ use mathlib.Core.Path.{_≡_, refl, _∙_}
 use mathlib.Core.List.{List, [], _∷_, _++_}
 use Prim.Native.Nat.{ℕ, _+_, _-_, _<_}
 use lib.ListN.{length, getD}
-use Rattle.paper.specs.declared.Geometry.{Geometry}
+use Rattle.paper.specs.declared.Module.{Module}
 use Rattle.paper.specs.declared.View.{View}
 use Rattle.paper.specs.Panel.{address, columnOf, rowOf}
 use Rattle.paper.specs.Strokes.{Stroke, rectMap, applied, applyAll}
@@ -13,7 +13,7 @@ use Rattle.laws_memory.proofs.Rects.{Change, InRect, rect-length, rect-
 
 -- ---- the leaves
 
-module _ (g : Geometry) (m : List ℕ) (v : View) where
+module _ (g : Module) (m : List ℕ) (v : View) where
   pub clear-stroke : cleared g (rangeOf v) m ≡ applied g m (clearStroke v)
   unfolding cleared
   clear-stroke = refl
@@ -26,13 +26,13 @@ module _ (g : Geometry) (m : List ℕ) (v : View) where
   unfolding movedLeft
   left-stroke l n = refl
 
-pub erase-stroke : (g : Geometry) (m : List ℕ) → cleared g (memoryRect g) m ≡ applied g m (eraseStroke g)
+pub erase-stroke : (g : Module) (m : List ℕ) → cleared g (memoryRect g) m ≡ applied g m (eraseStroke g)
 unfolding cleared
 erase-stroke g m = refl
 
 -- ---- one stroke
 
-module _ (g : Geometry) (m : List ℕ) (s : Stroke) where
+module _ (g : Module) (m : List ℕ) (s : Stroke) where
   pub applied-length : length (applied g m s) ≡ length m
   applied-length = rect-length g (s .rect) (s .byte m) m
 
@@ -57,11 +57,11 @@ module _ (g : Geometry) (m : List ℕ) (s : Stroke) where
 
 -- ---- strokes in a row
 
-pub apply-append : (g : Geometry) (m : List ℕ) (ss ts : List Stroke)
+pub apply-append : (g : Module) (m : List ℕ) (ss ts : List Stroke)
     → applyAll g m (ss ++ ts) ≡ applyAll g (applyAll g m ss) ts
 apply-append g m [] ts = refl
 apply-append g m (s ∷ ss) ts = apply-append g (applied g m s) ss ts
 
-pub apply-length : (g : Geometry) (m : List ℕ) (ss : List Stroke) → length (applyAll g m ss) ≡ length m
+pub apply-length : (g : Module) (m : List ℕ) (ss : List Stroke) → length (applyAll g m ss) ≡ length m
 apply-length g m [] = refl
 apply-length g m (s ∷ ss) = apply-length g (applied g m s) ss ∙ applied-length g m s

@@ -3,19 +3,19 @@ use mathlib.Core.Path.{_≡_}
 use mathlib.Core.List.{List}
 use Prim.Native.Nat.{ℕ, _+_, _≤_}
 use lib.ListN.{length, getD}
-use Rattle.paper.specs.declared.Geometry.{Geometry}
+use Rattle.paper.specs.declared.Module.{Module}
 use Rattle.paper.specs.declared.Span.{Span}
 use Rattle.paper.specs.Panel.{address, glassLength}
 use Rattle.paper.specs.Strokes.{rectAt, rectMap, shown}
 use Rattle.laws_memory.specs.Rectangles.{Fits}
 
 -- the glass has a byte for each visible column and row of the memory
-pub record Shows (g : Geometry) (m glass : List ℕ) : Type 0 where
+pub record Shows (g : Module) (m glass : List ℕ) : Type 0 where
   pub fits : Fits g m
   pub size : length glass ≡ glassLength g
   pub visible : g .visible ≤ g .columns
 
 -- row y of the glass takes a span's visible columns from memory
-unfoldable pub copied : Geometry → List ℕ → ℕ → Span → List ℕ → List ℕ
+unfoldable pub copied : Module → List ℕ → ℕ → Span → List ℕ → List ℕ
 copied g m y p glass =
     rectMap g (rectAt (p .first) y (shown g p) 1) (λ j r b. getD m (address g (p .first + j) (y + r)) 0) glass

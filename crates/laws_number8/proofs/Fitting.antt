@@ -6,7 +6,7 @@ use Prim.Native.Nat.{ℕ, _+_, _<_}
 use native.Mathlib.Omega.{arith}
 use lib.Dec.{leb, ltb, eqb}
 use borrow.Author.Tests.{leb-false, ltb-true}
-use Rattle.paper.specs.declared.Geometry.{Geometry}
+use Rattle.paper.specs.declared.Module.{Module}
 use Rattle.paper.specs.declared.Word.{Word}
 use Rattle.paper.specs.declared.Word.the-variants.{CursorX, CursorY, WindowLeft, WindowTop, WindowWidth, WindowHeight, ImageWidth, ImageHeight}
 use Rattle.paper.specs.declared.Half.{Half}
@@ -45,7 +45,7 @@ either t f h = by t (λ _. f) (λ _. h)
 if-fits : (t : Bool) (p : Half) → Fits p → Fitting (moreIf t p)
 if-fits t p f = either t (fitting f) (fitting tt)
 
-module _ (g : Geometry) where
+module _ (g : Module) where
   -- a 16-bit parameter that has come whole
   word-fits : (w : Word) (n : ℕ) → WordFits w → n < 65536 → Fitting (readWord g w n)
   unfolding readWord
@@ -73,7 +73,7 @@ module _ (g : Geometry) where
       (λ _. fitting tt))
 
   -- the first byte, and what opens a command's parameters
-  first-fits : (b : ℕ) → Fitting (readFirst b)
+  first-fits : (b : ℕ) → Fitting (readFirst g b)
   unfolding readFirst readMove
   first-fits b =
       either (leb 0x20 b) (fitting tt)
@@ -82,17 +82,18 @@ module _ (g : Geometry) where
       (either (eqb b 0x09) (fitting tt)
       (either (eqb b 0x0A) (fitting tt)
       (either (eqb b 0x0B) (fitting tt) (either (eqb b 0x0C) (fitting tt) (fitting tt))))))
-      (either (between 0x10 0x14 b) (fitting tt)
+      (either (between 0x10 0x14 b) (either (g .shortcuts) (fitting tt) (fitting tt))
       (either (eqb b 0x1B) (fitting tt) (either (eqb b 0x1F) (fitting tt) (fitting tt)))))
 
-  escape-fits : (b : ℕ) → Fitting (readEscape b)
+  escape-fits : (b : ℕ) → Fitting (readEscape g b)
   unfolding readEscape
   escape-fits b =
       either (eqb b 0x40) (fitting tt)
       (either (eqb b 0x52) (fitting tt)
       (either (eqb b 0x74) (fitting tt)
-      (either (eqb b 0x25) (fitting (omega arith))
-      (either (eqb b 0x3F) (fitting (omega arith)) (either (eqb b 0x26) (fitting tt) (fitting tt))))))
+      (either (eqb b 0x25) (either (g .downloads) (fitting (omega arith)) (fitting tt))
+      (either (eqb b 0x3F) (either (g .downloads) (fitting (omega arith)) (fitting tt))
+      (either (eqb b 0x26) (either (g .downloads) (fitting tt) (fitting tt)) (fitting tt))))))
 
   unit-fits : (b : ℕ) → Fitting (readUnit b)
   unfolding readUnit
@@ -137,7 +138,8 @@ module _ (g : Geometry) where
   next-fits Group b f l = group-fits b
   next-fits Actions b f l = actions-fits b
   next-fits Images b f l = either (eqb b 0x11) (fitting tt) (fitting tt)
-  next-fits Characters b f l = either (eqb b 0x03) (fitting tt) (either (eqb b 0x40) (fitting tt) (fitting tt))
+  next-fits Characters b f l =
+      either (eqb b 0x03) (either (g .widths) (fitting tt) (fitting tt)) (either (eqb b 0x40) (fitting tt) (fitting tt))
   next-fits Windows b f l =
       either (eqb b 0x01) (fitting tt) (either (eqb b 0x02) (fitting tt) (either (eqb b 0x10) (fitting tt) (fitting tt)))
   next-fits (Value key) b f l = fitting tt

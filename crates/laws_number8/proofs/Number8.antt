@@ -7,7 +7,8 @@ use Prim.Native.Nat.{ℕ, zero, suc, _+_, _<_, _≤_}
 use native.Mathlib.Omega.{arith}
 use lib.Dec.{leb, ltb, eqb}
 use lib.ListN.{getD}
-use borrow.Author.Tests.{leb-true, leb-false, ltb-true, ltb-false, eqb-true, eqb-false, ne-eqb}
+use borrow.Author.Tests.{leb-true, leb-false, ltb-true, ltb-false, eqb-true, eqb-false, eq-eqb, ne-eqb}
+use Rattle.paper.specs.declared.Module.{Module}
 use Rattle.paper.specs.declared.Settings.{Settings}
 use Rattle.paper.specs.declared.Cursor.{Cursor}
 use Rattle.paper.specs.declared.Window.{Window}
@@ -15,13 +16,12 @@ use Rattle.paper.specs.declared.Span.{Span}
 use Rattle.paper.specs.declared.Hold.{Hold}
 use Rattle.paper.specs.declared.Hold.the-variants.{Free, Held}
 use Rattle.paper.specs.declared.State.{State}
-use Rattle.paper.specs.Panel.{panel}
 use Rattle.paper.specs.Strokes.{noSpan, spanOf}
 use Rattle.paper.specs.Reading.{between}
 use Rattle.paper.specs.Settings.{inDomain, inEnlargement, noWindow, isDefined, selectable, fits}
 use Rattle.paper.specs.Bounds.{settingsOk, cursorOk, isBlank, windowOk, windowsOk, holdOk, spanOk, spansOk, halfOk, accepted}
 use Rattle.laws_bytes.specs.Beginnings.{Fits}
-use Rattle.laws_bytes.proofs.Tests.{both-of, between-facts}
+use Rattle.laws_bytes.proofs.Tests.{both-of, between-facts, between-true}
 use Rattle.laws_bytes.proofs.Beginnings.{begins-ok, ok-begins}
 use Rattle.laws_state.specs.Parts.{Parts}
 use Rattle.laws_state.proofs.Tests.{neither}
@@ -40,6 +40,10 @@ never : (t : Bool) → ¬ (t ≡ true) → t ≡ false
 never true n = absurd (n refl)
 never false n = refl
 
+-- two tests of which one fails do not both pass
+not-both : {s t : Bool} → (s && t) ≡ false → s ≡ true → t ≡ true → ⊥
+not-both e p q = true≢false (sym (rw (p, q)) ∙ e)
+
 -- a number that does not lie between two
 not-between : (lo hi n : ℕ) → between lo hi n ≡ false → (n < lo) ⊎ (hi < n)
 not-between lo hi n = fails (leb lo n) (λ e. inl (leb-false lo n e)) (λ e. inr (leb-false n hi e))
@@ -47,16 +51,22 @@ not-between lo hi n = fails (leb lo n) (λ e. inl (leb-false lo n e)) (λ e. inr
 -- ---- settings
 
 -- a setting is outside its domain if their test fails
-settings-out : (v : Settings) → settingsOk v ≡ false → OutOfDomain v
+settings-out : (g : Module) (v : Settings) → settingsOk g v ≡ false → OutOfDomain g v
 unfolding settingsOk inDomain inEnlargement
-settings-out v =
+settings-out g v =
     fails (leb (v .charset) 13) (λ e. charset (leb-false (v .charset) 13 e))
-    (fails (leb (v .codes) 5 || between 16 19 (v .codes))
+    (fails (leb (v .codes) 5 || (between 16 19 (v .codes) || (g .tables && eqb (v .codes) 0xFF)))
     (λ e.
-    let n = neither (leb (v .codes) 5) (between 16 19 (v .codes)) e in
-    codes (leb-false (v .codes) 5 (n .0)) (not-between 16 19 (v .codes) (n .1)))
+    let n = neither (leb (v .codes) 5) _ e in
+    let m = neither (between 16 19 (v .codes)) _ (n .1) in
+    codes (leb-false (v .codes) 5 (n .0)) (not-between 16 19 (v .codes) (m .0))
+    (λ q. not-both (m .1) (q .0) (eq-eqb (v .codes) 0xFF (q .1))))
     (fails (leb (v .caret) 1) (λ e. caret (leb-false (v .caret) 1 e))
-    (fails (between 1 8 (v .brightness)) (λ e. brightness (not-between 1 8 (v .brightness) e))
+    (fails (between (g .dimmest) (g .brightest) (v .brightness) || (g .finer && between 0x10 0x18 (v .brightness)))
+    (λ e.
+    let n = neither (between (g .dimmest) (g .brightest) (v .brightness)) _ e in
+    brightness (not-between (g .dimmest) (g .brightest) (v .brightness) (n .0))
+    (λ q. not-both (n .1) (q .0) (between-true 0x10 0x18 (v .brightness) (q .1) (q .2))))
     (fails (leb (v .speed) 31) (λ e. speed (leb-false (v .speed) 31 e))
     (fails (leb (v .width) 1) (λ e. width (leb-false (v .width) 1 e))
     (fails (leb (v .write) 1) (λ e. write (leb-false (v .write) 1 e))
@@ -74,12 +84,12 @@ inside lo hi n e (inl o) = let f = between-facts lo hi n e in omega arith
 inside lo hi n e (inr o) = let f = between-facts lo hi n e in omega arith
 
 -- the test of every setting
-abbrev InDomains : Settings → Type 0
-InDomains v =
+abbrev InDomains : Module → Settings → Type 0
+InDomains g v =
     (leb (v .charset) 13 ≡ true)
-    × ((leb (v .codes) 5 || between 16 19 (v .codes)) ≡ true)
+    × ((leb (v .codes) 5 || (between 16 19 (v .codes) || (g .tables && eqb (v .codes) 0xFF))) ≡ true)
     × (leb (v .caret) 1 ≡ true)
-    × (between 1 8 (v .brightness) ≡ true)
+    × ((between (g .dimmest) (g .brightest) (v .brightness) || (g .finer && between 0x10 0x18 (v .brightness))) ≡ true)
     × (leb (v .speed) 31 ≡ true)
     × (leb (v .width) 1 ≡ true)
     × (leb (v .write) 1 ≡ true)
@@ -88,13 +98,13 @@ InDomains v =
     × (between 1 4 (v .style .across) ≡ true)
     × (between 1 2 (v .style .down) ≡ true)
 
-in-domains : (v : Settings) → settingsOk v ≡ true → InDomains v
+in-domains : (g : Module) (v : Settings) → settingsOk g v ≡ true → InDomains g v
 unfolding settingsOk inDomain inEnlargement
-in-domains v h =
+in-domains g v h =
     let a = both-of (leb (v .charset) 13) _ h in
-    let b = both-of (leb (v .codes) 5 || between 16 19 (v .codes)) _ (a .1) in
+    let b = both-of (leb (v .codes) 5 || (between 16 19 (v .codes) || (g .tables && eqb (v .codes) 0xFF))) _ (a .1) in
     let c = both-of (leb (v .caret) 1) _ (b .1) in
-    let d = both-of (between 1 8 (v .brightness)) _ (c .1) in
+    let d = both-of (between (g .dimmest) (g .brightest) (v .brightness) || (g .finer && between 0x10 0x18 (v .brightness))) _ (c .1) in
     let e = both-of (leb (v .speed) 31) _ (d .1) in
     let f = both-of (leb (v .width) 1) _ (e .1) in
     let i = both-of (leb (v .write) 1) _ (f .1) in
@@ -103,24 +113,33 @@ in-domains v h =
     let l = both-of (between 1 4 (v .style .across)) (between 1 2 (v .style .down)) (k .1) in
     (a .0, b .0, c .0, d .0, e .0, f .0, i .0, j .0, k .0, l .0, l .1)
 
--- the two parts of 74h's domain
-in-codes : (t : Bool) (n : ℕ) → leb n 5 ≡ t → (t || between 16 19 n) ≡ true → 5 < n → ¬ ((n < 16) ⊎ (19 < n))
-in-codes true n q e o p = below n 5 q o
-in-codes false n q e o p = inside 16 19 n e p
+-- the parts of a domain of several: what passes none of them is outside
+in-either : (s t : Bool) → (s || t) ≡ true → ¬ (s ≡ true) → ¬ (t ≡ true) → ⊥
+in-either true t e n m = n refl
+in-either false t e n m = m e
 
 -- none is outside if they all pass
-settings-in : (v : Settings) → InDomains v → ¬ OutOfDomain v
-settings-in v t (charset o) = below (v .charset) 13 (t .0) o
-settings-in v t (codes o p) = in-codes (leb (v .codes) 5) (v .codes) refl (t .1) o p
-settings-in v t (caret o) = below (v .caret) 1 (t .2) o
-settings-in v t (brightness o) = inside 1 8 (v .brightness) (t .3) o
-settings-in v t (reverse o) = below (v .style .reverse) 1 (t .7) o
-settings-in v t (speed o) = below (v .speed) 31 (t .4) o
-settings-in v t (mixing o) = below (v .style .mixing) 3 (t .8) o
-settings-in v t (width o) = below (v .width) 1 (t .5) o
-settings-in v t (across o) = inside 1 4 (v .style .across) (t .9) o
-settings-in v t (down o) = inside 1 2 (v .style .down) (t .10) o
-settings-in v t (write o) = below (v .write) 1 (t .6) o
+settings-in : (g : Module) (v : Settings) → InDomains g v → ¬ OutOfDomain g v
+settings-in g v t (charset o) = below (v .charset) 13 (t .0) o
+settings-in g v t (codes o p n) =
+    in-either (leb (v .codes) 5) _ (t .1) (λ e. below (v .codes) 5 e o)
+    (λ h. in-either (between 16 19 (v .codes)) _ h (λ e. inside 16 19 (v .codes) e p)
+    (λ e. let f = both-of (g .tables) _ e in n (f .0, eqb-true (v .codes) 0xFF (f .1))))
+settings-in g v t (caret o) = below (v .caret) 1 (t .2) o
+settings-in g v t (brightness o n) =
+    in-either (between (g .dimmest) (g .brightest) (v .brightness)) _ (t .3)
+    (λ e. inside (g .dimmest) (g .brightest) (v .brightness) e o)
+    (λ e.
+    let f = both-of (g .finer) _ e in
+    let b = between-facts 0x10 0x18 (v .brightness) (f .1) in
+    n (f .0, b .0, b .1))
+settings-in g v t (reverse o) = below (v .style .reverse) 1 (t .7) o
+settings-in g v t (speed o) = below (v .speed) 31 (t .4) o
+settings-in g v t (mixing o) = below (v .style .mixing) 3 (t .8) o
+settings-in g v t (width o) = below (v .width) 1 (t .5) o
+settings-in g v t (across o) = inside 1 4 (v .style .across) (t .9) o
+settings-in g v t (down o) = inside 1 2 (v .style .down) (t .10) o
+settings-in g v t (write o) = below (v .write) 1 (t .6) o
 
 -- ---- windows and cursors
 
@@ -173,36 +192,36 @@ cursor-mode : (columns rows : ℕ) (k : Cursor) → cursorOk columns rows k ≡ 
 cursor-mode columns rows k h (inl o) = let f = cursor-facts columns rows k h in omega (arith, f .2, o)
 cursor-mode columns rows k h (inr o) = let f = cursor-facts columns rows k h in omega (arith, f .3, o)
 
-module _ (s : State) where
+module _ (g : Module) (s : State) where
   -- a clause holds of a user window whose test fails
-  window-out : (k : ℕ) → 1 ≤ k → k ≤ 4 → windowOk panel (window s k) ≡ false → Breaks s
-  unfolding windowOk fits panel
+  window-out : (k : ℕ) → 1 ≤ k → k ≤ 4 → windowOk g (window s k) ≡ false → Breaks g s
+  unfolding windowOk fits
   window-out k l h e =
       let w = window s k in
       let n = neither (isBlank w) _ e in
       let d : Defined s k = record { first = l; last = h; some = not-blank w (n .0) } in
-      fails (fits panel (w .left) (w .top) (w .width) (w .height))
+      fails (fits g (w .left) (w .top) (w .width) (w .height))
       (fails (leb 1 (w .width)) (λ q. let m = leb-false 1 (w .width) q in window-of-no-size k d (inl (omega arith)))
       (fails (leb 1 (w .height)) (λ q. let m = leb-false 1 (w .height) q in window-of-no-size k d (inr (omega arith)))
-      (fails (leb (w .left + w .width) 512) (λ q. window-leaves k d (inl (leb-false (w .left + w .width) 512 q)))
-      (λ q. window-leaves k d (inr (leb-false (w .top + w .height) 2 q))))))
+      (fails (leb (w .left + w .width) (g .columns)) (λ q. window-leaves k d (inl (leb-false (w .left + w .width) (g .columns) q)))
+      (λ q. window-leaves k d (inr (leb-false (w .top + w .height) (g .rows) q))))))
       (cursor-out (w .width) (w .height) (w .cursor) (cursor-outside k d) (mode-out k d)) (n .1)
 
   -- of one of the four
-  windows-out : windowsOk panel (s .windows) ≡ false → Breaks s
+  windows-out : windowsOk g (s .windows) ≡ false → Breaks g s
   unfolding windowsOk
   windows-out =
-      fails (windowOk panel (window s 1)) (window-out 1 (omega arith) (omega arith))
-      (fails (windowOk panel (window s 2)) (window-out 2 (omega arith) (omega arith))
-      (fails (windowOk panel (window s 3)) (window-out 3 (omega arith) (omega arith))
+      fails (windowOk g (window s 1)) (window-out 1 (omega arith) (omega arith))
+      (fails (windowOk g (window s 2)) (window-out 2 (omega arith) (omega arith))
+      (fails (windowOk g (window s 3)) (window-out 3 (omega arith) (omega arith))
       (window-out 4 (omega arith) (omega arith))))
 
   -- a window that can't be selected is not defined, or its record is none of a window
-  not-selectable : (k : ℕ) → selectable (s .windows) k ≡ false → (k ≢ 0 → ¬ Defined s k → Breaks s) → Breaks s
+  not-selectable : (k : ℕ) → selectable (s .windows) k ≡ false → (k ≢ 0 → ¬ Defined s k → Breaks g s) → Breaks g s
   unfolding selectable
   not-selectable k e undefined = go (eqb k 0) (leb k 4) (isDefined (window s k)) (isBlank (window s k)) refl refl refl refl e where
     go : (z i d b : Bool) → eqb k 0 ≡ z → leb k 4 ≡ i → isDefined (window s k) ≡ d → isBlank (window s k) ≡ b
-        → cond z true (i && d) ≡ false → Breaks s
+        → cond z true (i && d) ≡ false → Breaks g s
     go true i d b z-is i-is d-is b-is q = absurd (true≢false q)
     go false false d b z-is i-is d-is b-is q =
         undefined (eqb-false k 0 z-is) (λ f. let m = leb-false k 4 i-is in let l = f .last in omega arith)
@@ -227,90 +246,91 @@ module _ (s : State) where
 -- ---- spans
 
 -- a row's span is wrong if the test of all fails
-spans-out : {P : Type 0} (ps : List Span)
-    → ((y : ℕ) → spanOk panel (getD ps y noSpan) ≡ false → P) → spansOk panel ps ≡ false → P
-spans-out [] f e = absurd (true≢false e)
-spans-out (p ∷ ps) f e = fails (spanOk panel p) (λ q. f 0 q) (λ q. spans-out ps (λ y. f (suc y)) q) e
+spans-out : {P : Type 0} (g : Module) (ps : List Span)
+    → ((y : ℕ) → spanOk g (getD ps y noSpan) ≡ false → P) → spansOk g ps ≡ false → P
+spans-out g [] f e = absurd (true≢false e)
+spans-out g (p ∷ ps) f e = fails (spanOk g p) (λ q. f 0 q) (λ q. spans-out g ps (λ y. f (suc y)) q) e
 
 -- and each is right if it passes
-spans-in : (ps : List Span) (y : ℕ) → spansOk panel ps ≡ true → spanOk panel (getD ps y noSpan) ≡ true
+spans-in : (g : Module) (ps : List Span) (y : ℕ) → spansOk g ps ≡ true → spanOk g (getD ps y noSpan) ≡ true
 unfolding spanOk
-spans-in [] y e = refl
-spans-in (p ∷ ps) zero e = both-of (spanOk panel p) (spansOk panel ps) e .0
-spans-in (p ∷ ps) (suc y) e = spans-in ps y (both-of (spanOk panel p) (spansOk panel ps) e .1)
+spans-in g [] y e = refl
+spans-in g (p ∷ ps) zero e = both-of (spanOk g p) (spansOk g ps) e .0
+spans-in g (p ∷ ps) (suc y) e = spans-in g ps y (both-of (spanOk g p) (spansOk g ps) e .1)
 
 -- a span is wrong if its test fails
-span-out : (p : Span) → spanOk panel p ≡ false → (p ≢ noSpan) × ((lastOf p < p .first) ⊎ (511 < lastOf p))
-unfolding spanOk panel
-span-out p e =
+span-out : (g : Module) (p : Span) → spanOk g p ≡ false → (p ≢ noSpan) × ((lastOf p < p .first) ⊎ (g .columns ≤ lastOf p))
+unfolding spanOk
+span-out g p e =
     let n = neither (eqb (p .first) 0 && eqb (p .end) 0) _ e in
     let some : ¬ ((p .first ≡ 0) × (p .end ≡ 0)) = λ z. true≢false (sym (rw (z .0, z .1)) ∙ n .0) in (
       λ q. some (ap (λ (r : Span). r .first) q, ap (λ (r : Span). r .end) q),
       fails (ltb (p .first) (p .end)) (λ h. ordered (ltb-false (p .first) (p .end) h) some)
-          (λ h. let m = leb-false (p .end) 512 h in inr (omega arith)) (n .1),
+          (λ h. let m = leb-false (p .end) (g .columns) h in inr (omega arith)) (n .1),
     )
   where
-    ordered : p .end ≤ p .first → ¬ ((p .first ≡ 0) × (p .end ≡ 0)) → (lastOf p < p .first) ⊎ (511 < lastOf p)
+    ordered : p .end ≤ p .first → ¬ ((p .first ≡ 0) × (p .end ≡ 0)) → (lastOf p < p .first) ⊎ (g .columns ≤ lastOf p)
     ordered l n = go (p .first) refl where
-      go : (f : ℕ) → p .first ≡ f → (lastOf p < p .first) ⊎ (511 < lastOf p)
+      go : (f : ℕ) → p .first ≡ f → (lastOf p < p .first) ⊎ (g .columns ≤ lastOf p)
       go zero q = absurd (n (q, omega arith))
       go (suc f) q = inl (omega arith)
 
 -- and right if it passes
-span-in : (p : Span) → spanOk panel p ≡ true → p ≢ noSpan → ¬ ((lastOf p < p .first) ⊎ (511 < lastOf p))
-unfolding spanOk panel
-span-in p e n o = go (eqb (p .first) 0 && eqb (p .end) 0) refl e o where
-  go : (t : Bool) → (eqb (p .first) 0 && eqb (p .end) 0) ≡ t → (t || (ltb (p .first) (p .end) && leb (p .end) 512)) ≡ true
-      → ¬ ((lastOf p < p .first) ⊎ (511 < lastOf p))
+span-in : (g : Module) (p : Span) → spanOk g p ≡ true → p ≢ noSpan → ¬ ((lastOf p < p .first) ⊎ (g .columns ≤ lastOf p))
+unfolding spanOk
+span-in g p e n o = go (eqb (p .first) 0 && eqb (p .end) 0) refl e o where
+  go : (t : Bool) → (eqb (p .first) 0 && eqb (p .end) 0) ≡ t → (t || (ltb (p .first) (p .end) && leb (p .end) (g .columns))) ≡ true
+      → ¬ ((lastOf p < p .first) ⊎ (g .columns ≤ lastOf p))
   go true q h o = n (nothing-none p q)
   go false q h (inl o) =
-      let f = both-of (ltb (p .first) (p .end)) (leb (p .end) 512) h in
+      let f = both-of (ltb (p .first) (p .end)) (leb (p .end) (g .columns)) h in
       let l = ltb-true (p .first) (p .end) (f .0) in
       omega arith
   go false q h (inr o) =
-      let f = both-of (ltb (p .first) (p .end)) (leb (p .end) 512) h in
-      let l = leb-true (p .end) 512 (f .1) in
+      let f = both-of (ltb (p .first) (p .end)) (leb (p .end) (g .columns)) h in
+      let l = leb-true (p .end) (g .columns) (f .1) in
+      let m = ltb-true (p .first) (p .end) (f .0) in
       omega arith
 
 -- ---- all of it
 
-module _ (s : State) where
+module _ (g : Module) (s : State) where
   -- a clause holds if the test fails
-  broken : accepted panel s ≡ false → Breaks s
-  unfolding accepted panel halfOk holdOk
+  broken : accepted g s ≡ false → Breaks g s
+  unfolding accepted halfOk holdOk
   broken =
-      fails (settingsOk (s .settings)) (λ e. setting-out (settings-out (s .settings) e))
-      (fails (windowsOk panel (s .windows)) (windows-out s)
-      (fails (cursorOk 512 2 (s .base)) (cursor-out 512 2 (s .base) base-cursor-outside base-mode-out)
+      fails (settingsOk g (s .settings)) (λ e. setting-out (settings-out g (s .settings) e))
+      (fails (windowsOk g (s .windows)) (windows-out g s)
+      (fails (cursorOk (g .columns) (g .rows) (s .base)) (cursor-out (g .columns) (g .rows) (s .base) base-cursor-outside base-mode-out)
       (fails (selectable (s .windows) (s .selected))
-      (λ e. not-selectable s (s .selected) e (λ n d. undefined-selected n d))
-      (fails (holdOk (s .windows) (s .selected) (s .hold)) (hold-out (s .hold) refl)
-      (fails (halfOk panel (s .half)) (λ e. half-impossible (λ b. true≢false (sym (begins-ok panel (b .begins)) ∙ e)))
-      (spans-out (s .spans) (λ y e. let o = span-out (span s y) e in span-wrong y (o .0) (o .1))))))))
+      (λ e. not-selectable g s (s .selected) e (λ n d. undefined-selected n d))
+      (fails (holdOk g (s .windows) (s .selected) (s .hold)) (hold-out (s .hold) refl)
+      (fails (halfOk g (s .half)) (λ e. half-impossible (λ b. true≢false (sym (begins-ok g (b .begins)) ∙ e)))
+      (spans-out g (s .spans) (λ y e. let o = span-out g (span s y) e in span-wrong y (o .0) (o .1))))))))
     where
-      hold-out : (h : Hold) → s .hold ≡ h → holdOk (s .windows) (s .selected) h ≡ false → Breaks s
+      hold-out : (h : Hold) → s .hold ≡ h → holdOk g (s .windows) (s .selected) h ≡ false → Breaks g s
       hold-out Free q = λ e. absurd (true≢false e)
       hold-out (Held k back v) q =
           fails (leb 1 k)
           (λ e. let m = leb-false 1 k e in undefined-held k back v q (λ d. let l = d .first in omega arith))
           (fails (eqb k (s .selected)) (λ e. held-not-selected k back v q (eqb-false k (s .selected) e))
-          (fails (selectable (s .windows) k) (λ e. not-selectable s k e (λ _ d. undefined-held k back v q d))
-          (fails (selectable (s .windows) back) (λ e. not-selectable s back e (λ n d. undefined-saved k back v q n d))
-          (λ e. saved-setting-out k back v q (settings-out v e)))))
+          (fails (selectable (s .windows) k) (λ e. not-selectable g s k e (λ _ d. undefined-held k back v q d))
+          (fails (selectable (s .windows) back) (λ e. not-selectable g s back e (λ n d. undefined-saved k back v q n d))
+          (λ e. saved-setting-out k back v q (settings-out g v e)))))
 
   -- none does if it passes
-  module _ (p : Parts panel s) where
+  module _ (p : Parts g s) where
     -- a defined window is where it may be
     window-in : (k : ℕ) → Defined s k
-        → (fits panel (window s k .left) (window s k .top) (window s k .width) (window s k .height) ≡ true)
+        → (fits g (window s k .left) (window s k .top) (window s k .width) (window s k .height) ≡ true)
         × (cursorOk (window s k .width) (window s k .height) (window s k .cursor) ≡ true)
     unfolding windowOk
-    window-in k d = go (isBlank (window s k)) refl (window-at panel (s .windows) k (p .windows) (d .first) (d .last)) where
+    window-in k d = go (isBlank (window s k)) refl (window-at g (s .windows) k (p .windows) (d .first) (d .last)) where
       w : Window
       w = window s k
 
       inside : Bool
-      inside = fits panel (w .left) (w .top) (w .width) (w .height)
+      inside = fits g (w .left) (w .top) (w .width) (w .height)
 
       go : (t : Bool) → isBlank w ≡ t → (t || (inside && cursorOk (w .width) (w .height) (w .cursor))) ≡ true
           → (inside ≡ true) × (cursorOk (w .width) (w .height) (w .cursor) ≡ true)
@@ -318,37 +338,35 @@ module _ (s : State) where
       go false q e = both-of inside (cursorOk (w .width) (w .height) (w .cursor)) e
 
     fits-in : (k : ℕ) → Defined s k
-        → (1 ≤ window s k .width) × (1 ≤ window s k .height) × (window s k .left + window s k .width ≤ 512)
-        × (window s k .top + window s k .height ≤ 2)
-    unfolding panel
-    fits-in k d = fits-facts panel _ _ _ _ (window-in k d .0)
+        → (1 ≤ window s k .width) × (1 ≤ window s k .height) × (window s k .left + window s k .width ≤ g .columns)
+        × (window s k .top + window s k .height ≤ g .rows)
+    fits-in k d = fits-facts g _ _ _ _ (window-in k d .0)
 
     -- what is held
-    held-in : (k back : ℕ) (v : Settings) → s .hold ≡ Held k back v → HeldWell (s .windows) (s .selected) k back v
-    held-in k back v q = hold-facts (s .windows) (s .selected) k back v (rw q at (p .hold))
+    held-in : (k back : ℕ) (v : Settings) → s .hold ≡ Held k back v → HeldWell g (s .windows) (s .selected) k back v
+    held-in k back v q = hold-facts g (s .windows) (s .selected) k back v (rw q at (p .hold))
 
-    none : Fits (s .half) → ¬ Breaks s
-    unfolding panel
+    none : Fits (s .half) → ¬ Breaks g s
     none f (window-leaves k d (inl o)) = let i = fits-in k d in omega arith
     none f (window-leaves k d (inr o)) = let i = fits-in k d in omega arith
     none f (window-of-no-size k d (inl o)) = let i = fits-in k d in omega arith
     none f (window-of-no-size k d (inr o)) = let i = fits-in k d in omega arith
     none f (cursor-outside k d o) = cursor-inside _ _ (window s k .cursor) (window-in k d .1) o
-    none f (base-cursor-outside o) = cursor-inside 512 2 (s .base) (p .base) o
-    none f (setting-out o) = settings-in (s .settings) (in-domains (s .settings) (p .settings)) o
+    none f (base-cursor-outside o) = cursor-inside (g .columns) (g .rows) (s .base) (p .base) o
+    none f (setting-out o) = settings-in g (s .settings) (in-domains g (s .settings) (p .settings)) o
     none f (mode-out k d o) = cursor-mode _ _ (window s k .cursor) (window-in k d .1) o
-    none f (base-mode-out o) = cursor-mode 512 2 (s .base) (p .base) o
-    none f (saved-setting-out k back v q o) = settings-in v (in-domains v (held-in k back v q .4)) o
-    none f (undefined-selected n u) = u (selectable-defined s (s .selected) n (p .selected))
+    none f (base-mode-out o) = cursor-mode (g .columns) (g .rows) (s .base) (p .base) o
+    none f (saved-setting-out k back v q o) = settings-in g v (in-domains g v (held-in k back v q .4)) o
+    none f (undefined-selected n u) = u (selectable-defined g s (s .selected) n (p .selected))
     none f (undefined-held k back v q u) =
         let h = held-in k back v q in
         let l = h .0 in
-        u (selectable-defined s k (λ z. omega arith) (h .2))
-    none f (undefined-saved k back v q n u) = u (selectable-defined s back n (held-in k back v q .3))
+        u (selectable-defined g s k (λ z. omega arith) (h .2))
+    none f (undefined-saved k back v q n u) = u (selectable-defined g s back n (held-in k back v q .3))
     none f (held-not-selected k back v q n) = n (held-in k back v q .1)
-    none f (span-wrong y n o) = span-in (span s y) (spans-in (s .spans) y (p .spans)) n o
-    none f (half-impossible n) = n (ok-begins panel (s .half) (p .half) f)
+    none f (span-wrong y n o) = span-in g (span s y) (spans-in g (s .spans) y (p .spans)) n o
+    none f (half-impossible n) = n (ok-begins g (s .half) (p .half) f)
 
 -- number 8 is given exactly if a clause of its row holds, for every record whose half-read numbers fit their types
-pub number-8 : (s : State) → Fits (s .half) → (accepted panel s ≡ false) ↔ Breaks s
-number-8 s f = (broken s, λ b. never (accepted panel s) (λ e. none s (parts panel s e) f b))
+pub number-8 : (g : Module) (s : State) → Fits (s .half) → (accepted g s ≡ false) ↔ Breaks g s
+number-8 g s f = (broken g s, λ b. never (accepted g s) (λ e. none g s (parts g s e) f b))

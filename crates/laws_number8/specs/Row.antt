@@ -1,16 +1,17 @@
--- Row 8 of document 01's first table of numbers, clause by clause in its order and with its figures: `Breaks s`.
+-- Row 8 of document 01's first table of numbers, clause by clause in its order, with the module's figures: `Breaks g s`.
 -- That the paper's `accepted` fails exactly then is `number-8` in proofs/Number8. Assumes nothing.
 use mathlib.Core.Path.{_≡_}
+use mathlib.Core.Bool.{true}
 use mathlib.Core.Logic.{_≢_, _⊎_}
 use Prim.Native.Nat.{ℕ, _+_, _-_, _<_, _≤_}
 use lib.ListN.{getD}
+use Rattle.paper.specs.declared.Module.{Module}
 use Rattle.paper.specs.declared.Settings.{Settings}
 use Rattle.paper.specs.declared.Cursor.{Cursor}
 use Rattle.paper.specs.declared.Window.{Window}
 use Rattle.paper.specs.declared.Span.{Span}
 use Rattle.paper.specs.declared.Hold.the-variants.{Held}
 use Rattle.paper.specs.declared.State.{State}
-use Rattle.paper.specs.Panel.{panel}
 use Rattle.paper.specs.Strokes.{noSpan}
 use Rattle.paper.specs.Settings.{noWindow, windowAt}
 use Rattle.laws_bytes.specs.Beginnings.{Beginning}
@@ -36,22 +37,23 @@ abbrev pub NoMode : Cursor → Type 0
 NoMode k = (k .mode < 1) ⊎ (3 < k .mode)
 
 -- a setting outside the domain that "How bytes are read" gives its command
-pub data OutOfDomain (v : Settings) : Type 0 where
+pub data OutOfDomain (g : Module) (v : Settings) : Type 0 where
   -- 1Bh: "52h n (0 to 13)", "74h n (0 to 5, 16 to 19)"
-  charset : 13 < v .charset → OutOfDomain v
-  codes : 5 < v .codes → (v .codes < 16) ⊎ (19 < v .codes) → OutOfDomain v
+  charset : 13 < v .charset → OutOfDomain g v
+  codes : 5 < v .codes → (v .codes < 16) ⊎ (19 < v .codes) → ¬ ((g .tables ≡ true) × (v .codes ≡ 0xFF)) → OutOfDomain g v
   -- 1Fh: "43h n (0, 1)", "58h n (1 to 8)", "72h n (0, 1) reverse", "73h n (0 to 31, kept only)", "77h n (0 to 3) mixing"
-  caret : 1 < v .caret → OutOfDomain v
-  brightness : (v .brightness < 1) ⊎ (8 < v .brightness) → OutOfDomain v
-  reverse : 1 < v .style .reverse → OutOfDomain v
-  speed : 31 < v .speed → OutOfDomain v
-  mixing : 3 < v .style .mixing → OutOfDomain v
+  caret : 1 < v .caret → OutOfDomain g v
+  brightness : (v .brightness < g .dimmest) ⊎ (g .brightest < v .brightness)
+      → ¬ ((g .finer ≡ true) × (0x10 ≤ v .brightness) × (v .brightness ≤ 0x18)) → OutOfDomain g v
+  reverse : 1 < v .style .reverse → OutOfDomain g v
+  speed : 31 < v .speed → OutOfDomain g v
+  mixing : 3 < v .style .mixing → OutOfDomain g v
   -- 1Fh 28h 67h: "03h w (0 or 1; ..)", "40h x y (x 1 to 4, y 1 to 2)"
-  width : 1 < v .width → OutOfDomain v
-  across : (v .style .across < 1) ⊎ (4 < v .style .across) → OutOfDomain v
-  down : (v .style .down < 1) ⊎ (2 < v .style .down) → OutOfDomain v
+  width : 1 < v .width → OutOfDomain g v
+  across : (v .style .across < 1) ⊎ (4 < v .style .across) → OutOfDomain g v
+  down : (v .style .down < 1) ⊎ (2 < v .style .down) → OutOfDomain g v
   -- 1Fh 28h 77h: "10h a (0, 1) write mode"
-  write : 1 < v .write → OutOfDomain v
+  write : 1 < v .write → OutOfDomain g v
 
 -- row y's span, which is nothing if it is `noSpan`, 0 and 0; and its last column: the record has the column after it
 abbrev pub span : State → ℕ → Span
@@ -63,27 +65,27 @@ lastOf p = p .end - 1
 -- ---- the row
 
 -- 8: "state record breaks a bound of this paper"
-pub data Breaks (s : State) : Type 0 where
+pub data Breaks (g : Module) (s : State) : Type 0 where
   -- "a user window leaving the memory"
   window-leaves : (k : ℕ) → Defined s k
-      → (512 < window s k .left + window s k .width) ⊎ (2 < window s k .top + window s k .height) → Breaks s
+      → (g .columns < window s k .left + window s k .width) ⊎ (g .rows < window s k .top + window s k .height) → Breaks g s
   -- of our record's form: a window without columns or rows is none, and the record of none is all zeros
-  window-of-no-size : (k : ℕ) → Defined s k → (window s k .width ≡ 0) ⊎ (window s k .height ≡ 0) → Breaks s
+  window-of-no-size : (k : ℕ) → Defined s k → (window s k .width ≡ 0) ⊎ (window s k .height ≡ 0) → Breaks g s
   -- "a cursor outside its window"
-  cursor-outside : (k : ℕ) → Defined s k → Outside (window s k .width) (window s k .height) (window s k .cursor) → Breaks s
-  base-cursor-outside : Outside 512 2 (s .base) → Breaks s
+  cursor-outside : (k : ℕ) → Defined s k → Outside (window s k .width) (window s k .height) (window s k .cursor) → Breaks g s
+  base-cursor-outside : Outside (g .columns) (g .rows) (s .base) → Breaks g s
   -- "a setting or, while held, a saved one outside its domain": the common settings, and each window's mode
-  setting-out : OutOfDomain (s .settings) → Breaks s
-  mode-out : (k : ℕ) → Defined s k → NoMode (window s k .cursor) → Breaks s
-  base-mode-out : NoMode (s .base) → Breaks s
-  saved-setting-out : (k back : ℕ) (v : Settings) → s .hold ≡ Held k back v → OutOfDomain v → Breaks s
+  setting-out : OutOfDomain g (s .settings) → Breaks g s
+  mode-out : (k : ℕ) → Defined s k → NoMode (window s k .cursor) → Breaks g s
+  base-mode-out : NoMode (s .base) → Breaks g s
+  saved-setting-out : (k back : ℕ) (v : Settings) → s .hold ≡ Held k back v → OutOfDomain g v → Breaks g s
   -- "an undefined window selected, held or, while held, saved as selected": 0 selects the base, which can't be held
-  undefined-selected : s .selected ≢ 0 → ¬ Defined s (s .selected) → Breaks s
-  undefined-held : (k back : ℕ) (v : Settings) → s .hold ≡ Held k back v → ¬ Defined s k → Breaks s
-  undefined-saved : (k back : ℕ) (v : Settings) → s .hold ≡ Held k back v → back ≢ 0 → ¬ Defined s back → Breaks s
+  undefined-selected : s .selected ≢ 0 → ¬ Defined s (s .selected) → Breaks g s
+  undefined-held : (k back : ℕ) (v : Settings) → s .hold ≡ Held k back v → ¬ Defined s k → Breaks g s
+  undefined-saved : (k back : ℕ) (v : Settings) → s .hold ≡ Held k back v → back ≢ 0 → ¬ Defined s back → Breaks g s
   -- "a held window that is not the selected one"
-  held-not-selected : (k back : ℕ) (v : Settings) → s .hold ≡ Held k back v → k ≢ s .selected → Breaks s
+  held-not-selected : (k back : ℕ) (v : Settings) → s .hold ≡ Held k back v → k ≢ s .selected → Breaks g s
   -- "a span whose first exceeds its last or whose last exceeds 511"
-  span-wrong : (y : ℕ) → span s y ≢ noSpan → (lastOf (span s y) < span s y .first) ⊎ (511 < lastOf (span s y)) → Breaks s
+  span-wrong : (y : ℕ) → span s y ≢ noSpan → (lastOf (span s y) < span s y .first) ⊎ (g .columns ≤ lastOf (span s y)) → Breaks g s
   -- "an impossible half-read command: one that is not a proper beginning of a command by the reading rules"
-  half-impossible : ¬ Beginning panel (s .half) → Breaks s
+  half-impossible : ¬ Beginning g (s .half) → Breaks g s

@@ -6,7 +6,7 @@ use mathlib.Core.List.{List, [], _∷_}
 use Prim.Native.Nat.{ℕ}
 use native.Mathlib.Omega.{arith}
 use borrow.Author.Tests.{lt-ltb, not-false}
-use Rattle.paper.specs.declared.Geometry.{Geometry}
+use Rattle.paper.specs.declared.Module.{Module}
 use Rattle.paper.specs.declared.Span.{Span}
 use Rattle.paper.specs.declared.Half.the-variants.{Nothing}
 use Rattle.paper.specs.declared.Command.{Command}
@@ -14,8 +14,8 @@ use Rattle.paper.specs.declared.Command.the-variants.{Character, Back, Tab, Lin
 use Rattle.paper.specs.declared.State.{State}
 use Rattle.paper.specs.Reading.{between}
 use Rattle.paper.specs.Strokes.{Stroke}
-use Rattle.paper.specs.Settings.{initialStyle, initialSettings, topLeft, initialState, inDomain, inEnlargement, withHalf, withSpans, windowAt, isDefined, selectable, fits, newWindow, defined, cursorOf, cursor, inMode, insideWindow, viewOf}
-use Rattle.paper.specs.Bounds.{settingsOk, isBlank, windowOk, windowsOk, holdOk, spansOk, halfOk, accepted}
+use Rattle.paper.specs.Settings.{topLeft, initialState, inDomain, inEnlargement, withHalf, withSpans, windowAt, isDefined, selectable, fits, newWindow, defined, cursorOf, cursor, inMode, insideWindow, viewOf}
+use Rattle.paper.specs.Bounds.{isBlank, windowOk, windowsOk, holdOk, spansOk, halfOk, accepted}
 use Rattle.paper.specs.Moves.{Moved}
 use Rattle.paper.specs.Cells.{memoryRect, rangeOf}
 use Rattle.paper.specs.Carry.{moves, becomes, asks, widthNow, heightNow, carriedOut, imageStrokes, byteMeans}
@@ -27,14 +27,14 @@ use Rattle.laws_state.specs.Parts.{Parts}
 use Rattle.laws_state.specs.After.{Sound}
 use Rattle.laws_state.proofs.Moves.{all-wider, home-kept, return-kept, clear-kept, image-inside, ht-kept, back-kept, feed-kept, character-kept}
 use Rattle.laws_state.proofs.Parts.{parts, whole, cursor-facts, cursor-true, picked-tests, fits-facts, selected-window}
-use Rattle.laws_state.proofs.Settings.{set-ok, enlarged-ok}
+use Rattle.laws_state.proofs.Settings.{initial-ok, set-ok, enlarged-ok}
 use Rattle.laws_state.proofs.Marks.{marks-ok}
 use Rattle.laws_state.proofs.Builders.{half-parts, settings-parts, spans-parts, selected-parts, defined-parts, cancelled-parts, cursor-parts}
 use Rattle.laws_state.proofs.Views.{view-place, view-room, view-kept}
 use Rattle.laws_state.proofs.Cases.{Allowed, by-byte}
 
 -- the current window's cursor is in it and has one of the three modes
-cursor-now : (g : Geometry) (s : State) → Parts g s
+cursor-now : (g : Module) (s : State) → Parts g s
     → (insideWindow g s (cursorOf s .x) (cursorOf s .y) ≡ true) × (between 1 3 (cursorOf s .mode) ≡ true)
 unfolding cursorOf
 cursor-now g s p =
@@ -42,20 +42,20 @@ cursor-now g s p =
     (λ _. cursor-facts (g .columns) (g .rows) (s .base) (p .base)) (λ e. selected-window g s p e .1)
 
 -- a new window is in memory with its cursor at its top left
-new-ok : (g : Geometry) (left top width height : ℕ) → fits g left top width height ≡ true
+new-ok : (g : Module) (left top width height : ℕ) → fits g left top width height ≡ true
     → (windowOk g (newWindow left top width height) ≡ true) × (isDefined (newWindow left top width height) ≡ true)
 unfolding windowOk topLeft
 new-ok g left top width height e =
     let f = fits-facts g left top width height e in
     (rw (e, cursor-true width height topLeft (omega arith), or-true), lt-ltb 0 width (omega arith))
 
-module _ (g : Geometry) (u : Usable g) where
+module _ (g : Module) (u : Usable g) where
   -- the initial state, with any spans that pass
   pub initial-parts : (ps : List Span) → spansOk g ps ≡ true → Parts g (withSpans (initialState g) ps)
-  unfolding initialState initialSettings initialStyle settingsOk inDomain inEnlargement windowsOk windowOk isBlank selectable holdOk halfOk topLeft
+  unfolding initialState windowsOk windowOk isBlank selectable holdOk halfOk topLeft
   initial-parts ps h =
       record {
-        settings = refl;
+        settings = initial-ok g u;
         windows = refl;
         base = cursor-true (g .columns) (g .rows) topLeft (omega arith);
         selected = refl;
@@ -86,10 +86,10 @@ module _ (g : Geometry) (u : Usable g) where
         let v = viewOf g s in
         moved-sound _ (character-kept g font (s .settings .width) (s .settings .style) b v (view-room g u s h (a .room)))
     carried-sound font Back o a =
-        moved-sound _ (back-kept g (viewOf g s) (widthNow s) (heightNow s) (view-room g u s h (a .room)))
-    carried-sound font Tab o a = moved-sound _ (ht-kept g (viewOf g s) (widthNow s) (heightNow s) (view-room g u s h (a .room)))
+        moved-sound _ (back-kept g (viewOf g s) (widthNow g s) (heightNow s) (view-room g u s h (a .room)))
+    carried-sound font Tab o a = moved-sound _ (ht-kept g (viewOf g s) (widthNow g s) (heightNow s) (view-room g u s h (a .room)))
     carried-sound font LineFeed o a =
-        moved-sound _ (feed-kept g (viewOf g s) (widthNow s) (heightNow s) (view-room g u s h (a .room)))
+        moved-sound _ (feed-kept g (viewOf g s) (widthNow g s) (heightNow s) (view-room g u s h (a .room)))
     carried-sound font Home o a = moved-sound _ (home-kept (viewOf g s) g (view-place g u s h))
     carried-sound font Clear o a = moved-sound _ (clear-kept (viewOf g s) g (view-place g u s h))
     carried-sound font Return o a = moved-sound _ (return-kept (viewOf g s) g (view-place g u s h))
@@ -102,12 +102,12 @@ module _ (g : Geometry) (u : Usable g) where
         becomes-sound _ (cursor-parts g s p (cursor (cursorOf s .x) (cursorOf s .y) n) (cursor-now g s p .0) o)
     carried-sound font (Set key n) o a =
         let p = parts g s h in
-        let e = not-false (inDomain key n) (a .domain) in
-        becomes-sound _ (settings-parts g s p _ (set-ok (s .settings) (p .settings) key n e))
+        let e = not-false (inDomain g key n) (a .domain) in
+        becomes-sound _ (settings-parts g s p _ (set-ok g (s .settings) (p .settings) key n e))
     carried-sound font (Enlarge x y) o a =
         let p = parts g s h in
         let e = not-false (inEnlargement x y) (a .domain) in
-        becomes-sound _ (settings-parts g s p _ (enlarged-ok (s .settings) (p .settings) x y e))
+        becomes-sound _ (settings-parts g s p _ (enlarged-ok g (s .settings) (p .settings) x y e))
     carried-sound font (CursorSet x y) o a =
         let p = parts g s h in
         let e = not-false (insideWindow g s x y) (a .domain) in

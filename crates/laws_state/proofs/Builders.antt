@@ -8,7 +8,7 @@ use lib.ListN.{getD, set}
 use lib.Seq.{getD-set-other}
 use lib.Dec.{leb, eqb}
 use borrow.Author.Tests.{eqb-false}
-use Rattle.paper.specs.declared.Geometry.{Geometry}
+use Rattle.paper.specs.declared.Module.{Module}
 use Rattle.paper.specs.declared.Settings.{Settings}
 use Rattle.paper.specs.declared.Cursor.{Cursor}
 use Rattle.paper.specs.declared.Window.{Window}
@@ -38,7 +38,7 @@ at-set P (x ∷ ws) (suc i) zero w d h e = e
 at-set P (x ∷ ws) (suc i) (suc j) w d h e = at-set P ws i j w d h e
 
 -- windows that pass, with one more that passes
-pub windows-set : (g : Geometry) (ws : List Window) (i : ℕ) (w : Window) → windowsOk g ws ≡ true → windowOk g w ≡ true
+pub windows-set : (g : Module) (ws : List Window) (i : ℕ) (w : Window) → windowsOk g ws ≡ true → windowOk g w ≡ true
     → windowsOk g (set ws i w) ≡ true
 windows-set g ws i w e h =
     windows-true g (set ws i w) (λ k l u. at-set (windowOk g) ws i (k - 1) w noWindow h (window-at g ws k e l u))
@@ -71,25 +71,25 @@ selectable-other ws k j w l n e = go (eqb j 0) refl e where
 -- ---- holding
 
 -- while nothing is held there is nothing to test
-pub free-ok : (ws : List Window) (selected : ℕ) (h : Hold) → isHeld h ≡ false → holdOk ws selected h ≡ true
+pub free-ok : (g : Module) (ws : List Window) (selected : ℕ) (h : Hold) → isHeld h ≡ false → holdOk g ws selected h ≡ true
 unfolding holdOk isHeld
-free-ok ws selected Free e = refl
-free-ok ws selected (Held k back v) e = absurd (true≢false e)
+free-ok g ws selected Free e = refl
+free-ok g ws selected (Held k back v) e = absurd (true≢false e)
 
 -- what is held stays so after a define
-pub hold-set : (ws : List Window) (selected i : ℕ) (w : Window) (h : Hold) → isDefined w ≡ true → holdOk ws selected h ≡ true
-    → holdOk (set ws i w) selected h ≡ true
+pub hold-set : (g : Module) (ws : List Window) (selected i : ℕ) (w : Window) (h : Hold) → isDefined w ≡ true → holdOk g ws selected h ≡ true
+    → holdOk g (set ws i w) selected h ≡ true
 unfolding holdOk
-hold-set ws selected i w Free d e = refl
-hold-set ws selected i w (Held k back v) d e =
-    let f = hold-facts ws selected k back v e in
-    hold-true (set ws i w) selected k back v
+hold-set g ws selected i w Free d e = refl
+hold-set g ws selected i w (Held k back v) d e =
+    let f = hold-facts g ws selected k back v e in
+    hold-true g (set ws i w) selected k back v
     (f .0, f .1, selectable-set ws i k w d (f .2), selectable-set ws i back w d (f .3), f .4)
 
 -- ---- windows
 
 -- a window with a new cursor in it
-pub moved-ok : (g : Geometry) (w : Window) (k : Cursor) → windowOk g w ≡ true → isDefined w ≡ true
+pub moved-ok : (g : Module) (w : Window) (k : Cursor) → windowOk g w ≡ true → isDefined w ≡ true
     → cursorOk (w .width) (w .height) k ≡ true → windowOk g (withCursor w k) ≡ true
 unfolding windowOk
 moved-ok g w k e d h =
@@ -99,20 +99,20 @@ moved-ok g w k e d h =
 -- ---- the state
 
 -- the seven parts
-parts : {g : Geometry} {s : State} → settingsOk (s .settings) ≡ true → windowsOk g (s .windows) ≡ true
+parts : {g : Module} {s : State} → settingsOk g (s .settings) ≡ true → windowsOk g (s .windows) ≡ true
     → cursorOk (g .columns) (g .rows) (s .base) ≡ true → selectable (s .windows) (s .selected) ≡ true
-    → holdOk (s .windows) (s .selected) (s .hold) ≡ true → halfOk g (s .half) ≡ true → spansOk g (s .spans) ≡ true → Parts g s
+    → holdOk g (s .windows) (s .selected) (s .hold) ≡ true → halfOk g (s .half) ≡ true → spansOk g (s .spans) ≡ true → Parts g s
 parts v ws b k h p ps =
     record { settings = v; windows = ws; base = b; selected = k; hold = h; half = p; spans = ps }
 
-module _ (g : Geometry) (s : State) (p : Parts g s) where
+module _ (g : Module) (s : State) (p : Parts g s) where
   -- another command half read
   pub half-parts : (q : Half) → halfOk g q ≡ true → Parts g (withHalf s q)
   half-parts q h =
       parts (p .settings) (p .windows) (p .base) (p .selected) (p .hold) h (p .spans)
 
   -- other settings
-  pub settings-parts : (v : Settings) → settingsOk v ≡ true → Parts g (withSettings s v)
+  pub settings-parts : (v : Settings) → settingsOk g v ≡ true → Parts g (withSettings s v)
   settings-parts v h =
       parts h (p .windows) (p .base) (p .selected) (p .hold) (p .half) (p .spans)
 
@@ -129,19 +129,19 @@ module _ (g : Geometry) (s : State) (p : Parts g s) where
   -- another window selected while nothing is held
   pub selected-parts : (k : ℕ) → selectable (s .windows) k ≡ true → isHeld (s .hold) ≡ false → Parts g (withSelected s k)
   selected-parts k h n =
-      parts (p .settings) (p .windows) (p .base) h (free-ok (s .windows) k (s .hold) n) (p .half) (p .spans)
+      parts (p .settings) (p .windows) (p .base) h (free-ok g (s .windows) k (s .hold) n) (p .half) (p .spans)
 
   -- a window defined, or moved in
   pub defined-parts : (k : ℕ) (w : Window) → windowOk g w ≡ true → isDefined w ≡ true → Parts g (defined s k w)
   defined-parts k w h d =
-      parts (p .settings) (windows-set g (s .windows) (k - 1) w (p .windows) h) (p .base) (selectable-set (s .windows) (k - 1) (s .selected) w d (p .selected)) (hold-set (s .windows) (s .selected) (k - 1) w (s .hold) d (p .hold)) (p .half) (p .spans)
+      parts (p .settings) (windows-set g (s .windows) (k - 1) w (p .windows) h) (p .base) (selectable-set (s .windows) (k - 1) (s .selected) w d (p .selected)) (hold-set g (s .windows) (s .selected) (k - 1) w (s .hold) d (p .hold)) (p .half) (p .spans)
 
   -- a window taken away while nothing is held, j then selected
   without-parts : (k j : ℕ) → isHeld (s .hold) ≡ false → selectable (set (s .windows) (k - 1) noWindow) j ≡ true
       → Parts g (withSelected (defined s k noWindow) j)
   unfolding windowOk isBlank
   without-parts k j n h =
-      parts (p .settings) (windows-set g (s .windows) (k - 1) noWindow (p .windows) refl) (p .base) h (free-ok (set (s .windows) (k - 1) noWindow) j (s .hold) n) (p .half) (p .spans)
+      parts (p .settings) (windows-set g (s .windows) (k - 1) noWindow (p .windows) refl) (p .base) h (free-ok g (set (s .windows) (k - 1) noWindow) j (s .hold) n) (p .half) (p .spans)
 
   -- a window cancelled
   pub cancelled-parts : (k : ℕ) → 1 ≤ k → isHeld (s .hold) ≡ false → Parts g (cancelled s k)

@@ -6,7 +6,7 @@ use Prim.Native.Nat.{ℕ}
 use native.Mathlib.Omega.{arith}
 use lib.ListN.{replicate}
 use borrow.Author.Tests.{le-leb, ne-eqb}
-use Rattle.paper.specs.declared.Geometry.{Geometry}
+use Rattle.paper.specs.declared.Module.{Module}
 use Rattle.paper.specs.declared.Hold.{Hold}
 use Rattle.paper.specs.declared.Hold.the-variants.{Free, Held}
 use Rattle.paper.specs.declared.Refusal.the-variants.{Accepted}
@@ -30,7 +30,7 @@ use Rattle.laws_state.proofs.Refusals.{hold-given}
 
 -- ---- the states that calls give
 
-module _ (g : Geometry) (u : Usable g) where
+module _ (g : Module) (u : Usable g) where
   -- the initial state
   pub initial-accepted : accepted g (initialState g) ≡ true
   unfolding initialState
@@ -44,7 +44,7 @@ module _ (g : Geometry) (u : Usable g) where
       whole g (started g)
       (initial-parts g u _ (marks-ok g empty (eraseStroke g ∷ []) (omega arith, tt) (empty-ok g (g .rows))))
 
-module _ (g : Geometry) (s : State) (h : accepted g s ≡ true) where
+module _ (g : Module) (s : State) (h : accepted g s ≡ true) where
   -- what hold gives
   pub held-accepted : (k : ℕ) → between 1 4 k ≡ true → isDefined (windowAt (s .windows) k) ≡ true
       → accepted g (heldBy s k) ≡ true
@@ -59,18 +59,18 @@ module _ (g : Geometry) (s : State) (h : accepted g s ≡ true) where
         windows = p .windows;
         base = p .base;
         selected = may;
-        hold = hold-true (s .windows) k k (s .selected) (s .settings) (f .0, refl, may, p .selected, p .settings);
+        hold = hold-true g (s .windows) k k (s .selected) (s .settings) (f .0, refl, may, p .selected, p .settings);
         half = refl;
         spans = p .spans;
       })
 
   -- what release gives, by what is held
-  back-parts : (q : Hold) → holdOk (s .windows) (s .selected) q ≡ true → Parts g (putBack s q)
+  back-parts : (q : Hold) → holdOk g (s .windows) (s .selected) q ≡ true → Parts g (putBack s q)
   unfolding holdOk halfOk
   back-parts Free e = parts g s h
   back-parts (Held k back v) e =
       let p = parts g s h in
-      let f = hold-facts (s .windows) (s .selected) k back v e in
+      let f = hold-facts g (s .windows) (s .selected) k back v e in
       record {
         settings = f .4;
         windows = p .windows;
@@ -93,7 +93,7 @@ module _ (g : Geometry) (s : State) (h : accepted g s ≡ true) where
 
 -- ---- the calls, refused or not
 
-module _ (g : Geometry) (u : Usable g) where
+module _ (g : Module) (u : Usable g) where
   -- start
   pub start-keeps : (m : List ℕ) → accepted g (startCall g m .answer .state) ≡ true
   unfolding startCall
@@ -109,7 +109,7 @@ module _ (g : Geometry) (u : Usable g) where
       by-cond (λ (q : Feeding). accepted g (q .answer .state) ≡ true) (isAccepted (feedRefusal g font s m))
       (λ _. run-accepted g u font (fedNothing Accepted s m) piece h) (λ _. h)
 
-module _ (g : Geometry) (s : State) (h : accepted g s ≡ true) where
+module _ (g : Module) (s : State) (h : accepted g s ≡ true) where
   -- hold
   pub hold-keeps : (k : ℕ) → accepted g (holdCall g s k .state) ≡ true
   unfolding holdCall

@@ -5,7 +5,7 @@ use mathlib.Core.Bool.{true, false, _&&_}
 use mathlib.Core.List.{List, []}
 use Prim.Native.Nat.{ℕ}
 use lib.Dec.{ltb}
-use Rattle.paper.specs.declared.Geometry.{Geometry}
+use Rattle.paper.specs.declared.Module.{Module}
 use Rattle.paper.specs.declared.Half.{Half}
 use Rattle.paper.specs.declared.Half.the-variants.{Nothing}
 use Rattle.paper.specs.declared.Command.{Command}
@@ -24,14 +24,14 @@ use Rattle.laws_bytes.proofs.Tests.{both-of}
 use Rattle.laws_state.proofs.Tests.{by-cond}
 
 -- a command to which none of 14, 15, 11, 17 and 16 is answered
-pub record Allowed (g : Geometry) (s : State) (c : Command) : Type 0 where
+pub record Allowed (g : Module) (s : State) (c : Command) : Type 0 where
   pub carried : askedOf g s c .notCarried ≡ false
   pub owner : (askedOf g s c .ownersOnly && isHeld (s .hold)) ≡ false
   pub domain : askedOf g s c .outOfDomain ≡ false
   pub defined : askedOf g s c .notDefined ≡ false
   pub room : askedOf g s c .tooLarge ≡ false
 
-module _ (g : Geometry) (font : List ℕ) (P : Meaning → Type 0) where
+module _ (g : Module) (font : List ℕ) (P : Meaning → Type 0) where
   -- a command is answered, or it is carried out
   pub by-command : (s : State) (c : Command) → ((o : Outcome) → P (answers s o)) → (Allowed g s c → P (carriedOut g font s c))
       → P (commandOf g font s c)

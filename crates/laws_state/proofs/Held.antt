@@ -9,7 +9,7 @@ use lib.Dec.{eqb}
 use lib.ListN.{getD, set}
 use lib.Seq.{getD-set-other}
 use borrow.Author.Tests.{ne-eqb, eqb-false}
-use Rattle.paper.specs.declared.Geometry.{Geometry}
+use Rattle.paper.specs.declared.Module.{Module}
 use Rattle.paper.specs.declared.Settings.{Settings}
 use Rattle.paper.specs.declared.Cursor.{Cursor}
 use Rattle.paper.specs.declared.Window.{Window}
@@ -100,12 +100,12 @@ module _ (s : State) (user : eqb (s .selected) 0 ≡ false) where
       })
 
   -- what lies in the range lies in the window
-  window-inside : (g : Geometry) (ss : List Stroke) → AllIn (rangeOf (viewOf g s)) ss
+  window-inside : (g : Module) (ss : List Stroke) → AllIn (rangeOf (viewOf g s)) ss
       → AllIn (windowRect (windowAt (s .windows) (s .selected))) ss
   window-inside g ss = subst (λ (q : View). AllIn (rangeOf q) ss) (view-window g s user)
 
   -- a move of the range
-  moved-within : (g : Geometry) (t : Moved) → Kept (viewOf g s) t → Within s (moves s t)
+  moved-within : (g : Module) (t : Moved) → Kept (viewOf g s) t → Within s (moves s t)
   moved-within g t k = record { state = at-stays _; strokes = window-inside g (t .strokes) (k .inside) }
 
   -- nothing is written and the cursor goes elsewhere
@@ -113,18 +113,18 @@ module _ (s : State) (user : eqb (s .selected) 0 ≡ false) where
   placed-within k = record { state = at-stays k; strokes = tt }
 
   -- every command that is carried out while a window is held
-  carried-within : (g : Geometry) → Usable g → (font : List ℕ) → accepted g s ≡ true → isHeld (s .hold) ≡ true
+  carried-within : (g : Module) → Usable g → (font : List ℕ) → accepted g s ≡ true → isHeld (s .hold) ≡ true
       → (c : Command) → Allowed g s c → Within s (carriedOut g font s c)
   unfolding carriedOut asks inMode
   carried-within g u font h held (Character b) a =
       let v = viewOf g s in
       moved-within g _ (character-kept g font (s .settings .width) (s .settings .style) b v (view-room g u s h (a .room)))
   carried-within g u font h held Back a =
-      moved-within g _ (back-kept g (viewOf g s) (widthNow s) (heightNow s) (view-room g u s h (a .room)))
+      moved-within g _ (back-kept g (viewOf g s) (widthNow g s) (heightNow s) (view-room g u s h (a .room)))
   carried-within g u font h held Tab a =
-      moved-within g _ (ht-kept g (viewOf g s) (widthNow s) (heightNow s) (view-room g u s h (a .room)))
+      moved-within g _ (ht-kept g (viewOf g s) (widthNow g s) (heightNow s) (view-room g u s h (a .room)))
   carried-within g u font h held LineFeed a =
-      moved-within g _ (feed-kept g (viewOf g s) (widthNow s) (heightNow s) (view-room g u s h (a .room)))
+      moved-within g _ (feed-kept g (viewOf g s) (widthNow g s) (heightNow s) (view-room g u s h (a .room)))
   carried-within g u font h held Home a = moved-within g _ (home-kept (viewOf g s) g (view-place g u s h))
   carried-within g u font h held Clear a = moved-within g _ (clear-kept (viewOf g s) g (view-place g u s h))
   carried-within g u font h held Return a = moved-within g _ (return-kept (viewOf g s) g (view-place g u s h))
@@ -138,7 +138,7 @@ module _ (s : State) (user : eqb (s .selected) 0 ≡ false) where
   carried-within g u font h held (Cancel k) a = absurd (true≢false (sym held ∙ a .owner))
   carried-within g u font h held Uncarried a = record { state = unmoved s _ refl refl refl refl; strokes = tt }
 
-module _ (g : Geometry) (u : Usable g) (font : List ℕ) where
+module _ (g : Module) (u : Usable g) (font : List ℕ) where
   -- every byte while a window is held
   byte-within : (s : State) (b : ℕ) → accepted g s ≡ true → isHeld (s .hold) ≡ true → eqb (s .selected) 0 ≡ false
       → Within (withHalf s Nothing) (byteMeans g font s b)
@@ -157,12 +157,12 @@ module _ (g : Geometry) (u : Usable g) (font : List ℕ) where
 
 -- ---- window k is held
 
-module _ (g : Geometry) (k back : ℕ) (v : Settings) (s : State) (i : Holding g k back v s) where
+module _ (g : Module) (k back : ℕ) (v : Settings) (s : State) (i : Holding g k back v s) where
   -- the window held is the selected one, and not the base
   pub is-selected : (1 ≤ k) × (k ≡ s .selected)
   is-selected =
-      let ok = subst (λ (q : Hold). holdOk (s .windows) (s .selected) q ≡ true) (i .held) (parts g s (i .accepts) .hold) in
-      let f = hold-facts (s .windows) (s .selected) k back v ok in
+      let ok = subst (λ (q : Hold). holdOk g (s .windows) (s .selected) q ≡ true) (i .held) (parts g s (i .accepts) .hold) in
+      let f = hold-facts g (s .windows) (s .selected) k back v ok in
       (f .0, f .1)
 
   -- so it is a user window that is selected
@@ -208,7 +208,7 @@ module _ (g : Geometry) (k back : ℕ) (v : Settings) (s : State) (i : Holding g
         y = omega arith;
       }
 
-module _ (g : Geometry) (u : Usable g) (font : List ℕ) (k back : ℕ) (v : Settings) where
+module _ (g : Module) (u : Usable g) (font : List ℕ) (k back : ℕ) (v : Settings) where
   module _ (s : State) (i : Holding g k back v s) (b : ℕ) where
     -- a guest's byte, by the selected window
     within : Within (withHalf s Nothing) (byteMeans g font s b)

@@ -4,7 +4,7 @@ use mathlib.Core.List.{List, [], _∷_, _++_}
 use Prim.Native.Nat.{ℕ, _+_, _<_}
 use native.Mathlib.Omega.{arith}
 use lib.ListN.{length}
-use Rattle.paper.specs.declared.Geometry.{Geometry}
+use Rattle.paper.specs.declared.Module.{Module}
 use Rattle.paper.specs.declared.Refusal.the-variants.{Accepted}
 use Rattle.paper.specs.declared.State.{State}
 use Rattle.paper.specs.Strokes.{applyAll}
@@ -13,7 +13,7 @@ use Rattle.paper.specs.Carry.{byteMeans}
 use Rattle.paper.specs.Calls.{Feeding, isAccepted, feedRefusal, next, run, fedNothing, feedCall, settled}
 use Rattle.laws_state.specs.Joined.{Joined}
 
-module _ (g : Geometry) (font : List ℕ) where
+module _ (g : Module) (font : List ℕ) where
   -- running over two pieces joined is running over the second after the first
   pub run-append : (f : Feeding) (a b : List ℕ) → run g font f (a ++ b) ≡ run g font (run g font f a) b
   run-append f [] b = refl

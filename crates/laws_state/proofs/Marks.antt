@@ -7,7 +7,7 @@ use native.Mathlib.Omega.{arith}
 use lib.Dec.{leb, ltb}
 use lib.ListN.{getD, replicate}
 use borrow.Author.Tests.{leb-true, le-leb, ltb-true, lt-ltb, eqb-true}
-use Rattle.paper.specs.declared.Geometry.{Geometry}
+use Rattle.paper.specs.declared.Module.{Module}
 use Rattle.paper.specs.declared.Rect.{Rect}
 use Rattle.paper.specs.declared.Span.{Span}
 use Rattle.paper.specs.Strokes.{Stroke, among, noSpan, isNothing, spanHolds, grown, grownBy, markFrom, marked, markAll}
@@ -20,7 +20,7 @@ use Rattle.laws_state.proofs.Tests.{by-cond}
 
 -- ---- in bounds
 
-module _ (g : Geometry) where
+module _ (g : Module) where
   -- empty spans
   pub empty-ok : (n : ℕ) → spansOk g (replicate n noSpan) ≡ true
   unfolding spanOk

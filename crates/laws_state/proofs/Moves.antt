@@ -6,7 +6,7 @@ use Prim.Native.Nat.{ℕ, _+_, _*_, _-_, _<_, _≤_}
 use native.Mathlib.Omega.{arith}
 use lib.Dec.{leb, ltb, eqb}
 use borrow.Author.Tests.{leb-true, ltb-true}
-use Rattle.paper.specs.declared.Geometry.{Geometry}
+use Rattle.paper.specs.declared.Module.{Module}
 use Rattle.paper.specs.declared.Rect.{Rect}
 use Rattle.paper.specs.declared.Style.{Style}
 use Rattle.paper.specs.declared.View.{View}
@@ -52,11 +52,11 @@ module _ (v : View) (t : Moved) where
       }
 
   -- where a move ends is in memory
-  pub kept-place : (g : Geometry) → InMemory g v → Kept v t → InMemory g (t .view)
+  pub kept-place : (g : Module) → InMemory g v → Kept v t → InMemory g (t .view)
   kept-place g i p = omega arith
 
   -- and the cell has room there
-  pub kept-room : (g : Geometry) (c l : ℕ) → Room g v c l → Kept v t → Room g (t .view) c l
+  pub kept-room : (g : Module) (c l : ℕ) → Room g v c l → Kept v t → Room g (t .view) c l
   kept-room g c l i p = omega arith
 
 -- ---- moves that need no room for a cell
@@ -74,20 +74,20 @@ module _ (v : View) where
       record { left = refl; top = refl; width = refl; height = refl; mode = refl; x = hx; y = hy; inside = (i, tt) }
 
   -- HOM
-  pub home-kept : (g : Geometry) → InMemory g v → Kept v (only (homeOf v))
+  pub home-kept : (g : Module) → InMemory g v → Kept v (only (homeOf v))
   home-kept g i = to-kept 0 0 (omega arith) (omega arith)
 
   -- CR
-  pub return-kept : (g : Geometry) → InMemory g v → Kept v (only (returnOf v))
+  pub return-kept : (g : Module) → InMemory g v → Kept v (only (returnOf v))
   return-kept g i = to-kept 0 (v .y) (omega arith) (i .y)
 
   -- CLR
-  pub clear-kept : (g : Geometry) → InMemory g v → Kept v (clearOf v)
+  pub clear-kept : (g : Module) → InMemory g v → Kept v (clearOf v)
   unfolding clearOf
   clear-kept g i = writing-kept _ 0 0 (omega arith) (omega arith) (omega arith)
 
   -- a cell drawn at the cursor, whatever its dots
-  pub cell-kept : (g : Geometry) → InMemory g v → (rule : Rule) (y : Style) (c : ℕ) (d : Dots)
+  pub cell-kept : (g : Module) → InMemory g v → (rule : Rule) (y : Style) (c : ℕ) (d : Dots)
       → Kept v (writing (cellStroke rule y c d v) v)
   cell-kept g i rule y c d = writing-kept _ (v .x) (v .y) (i .x) (i .y) (omega arith)
 
@@ -105,7 +105,7 @@ module _ (v : View) where
 
 -- ---- moves by a cell of c columns and l rows
 
-module _ (g : Geometry) (v : View) (c l : ℕ) (i : Room g v c l) where
+module _ (g : Module) (v : View) (c l : ℕ) (i : Room g v c l) where
   -- the next line, in MD1
   line-kept : Kept v (only (nextLine v l))
   unfolding nextLine
@@ -148,12 +148,13 @@ module _ (g : Geometry) (v : View) (c l : ℕ) (i : Room g v c l) where
       (λ _. to-kept v (v .x) (v .y) (omega arith) (omega arith)))
 
   -- LF in MD1
-  down-kept : Kept v (only (lineDown v l))
+  down-kept : Kept v (only (lineDown g v l))
   unfolding lineDown
   down-kept =
       by-cond (λ q. Kept v (only q)) (leb (v .y + 2 * l) (v .height))
       (λ e. let f = leb-true (v .y + 2 * l) (v .height) e in to-kept v (v .x) (v .y + l) (omega arith) (omega arith))
-      (λ _. to-kept v (v .x) 0 (omega arith) (omega arith))
+      (λ _. by-cond (λ x. Kept v (only (to v x 0))) (g .keeps) (λ _. to-kept v (v .x) 0 (omega arith) (omega arith))
+      (λ _. to-kept v 0 0 (omega arith) (omega arith)))
 
   -- LF in MD2
   down-up-kept : Kept v (lineDownUp g v l)
@@ -174,33 +175,33 @@ module _ (g : Geometry) (v : View) (c l : ℕ) (i : Room g v c l) where
 -- ---- characters
 
 -- the all-off cell of a wrap, then HT
-pub blank-kept : (g : Geometry) (w : ℕ) (y : Style) (v : View) → Room g v (cellWidth w y) (cellHeight y)
+pub blank-kept : (g : Module) (w : ℕ) (y : Style) (v : View) → Room g v (cellWidth g w y) (cellHeight y)
     → Kept v (blankTab g w y v)
 unfolding blankTab
 blank-kept g w y v i =
-    then-kept v (writing (blankStroke w y v) v) (λ q. htOf g q (cellWidth w y) (cellHeight y))
-    (cell-kept v g (i .place) wrapBlank y (cellWidth w y) allOff) (ht-kept g v (cellWidth w y) (cellHeight y) i)
+    then-kept v (writing (blankStroke g w y v) v) (λ q. htOf g q (cellWidth g w y) (cellHeight y))
+    (cell-kept v g (i .place) wrapBlank y (cellWidth g w y) allOff) (ht-kept g v (cellWidth g w y) (cellHeight y) i)
 
-module _ (g : Geometry) (font : List ℕ) (w : ℕ) (y : Style) (code : ℕ) where
+module _ (g : Module) (font : List ℕ) (w : ℕ) (y : Style) (code : ℕ) where
   -- a drawn cell, then HT
-  pub draw-kept : (v : View) → Room g v (cellWidth w y) (cellHeight y) → Kept v (drawTab g font w y code v)
+  pub draw-kept : (v : View) → Room g v (cellWidth g w y) (cellHeight y) → Kept v (drawTab g font w y code v)
   unfolding drawTab
   draw-kept v i =
-      then-kept v (writing (drawStroke font w y code v) v) (λ q. htOf g q (cellWidth w y) (cellHeight y))
-      (cell-kept v g (i .place) draw y (cellWidth w y) (cellDot font code w (v .top + v .y)))
-      (ht-kept g v (cellWidth w y) (cellHeight y) i)
+      then-kept v (writing (drawStroke g font w y code v) v) (λ q. htOf g q (cellWidth g w y) (cellHeight y))
+      (cell-kept v g (i .place) draw y (cellWidth g w y) (cellDot g font code w (v .top + v .y)))
+      (ht-kept g v (cellWidth g w y) (cellHeight y) i)
 
   -- a drawn cell after another move
-  draw-after : (v : View) (t : Moved) → Room g v (cellWidth w y) (cellHeight y) → Kept v t
+  draw-after : (v : View) (t : Moved) → Room g v (cellWidth g w y) (cellHeight y) → Kept v t
       → Kept v (andThen t (drawTab g font w y code))
   draw-after v t i p =
-      then-kept v t (drawTab g font w y code) p (draw-kept (t .view) (kept-room v t g (cellWidth w y) (cellHeight y) i p))
+      then-kept v t (drawTab g font w y code) p (draw-kept (t .view) (kept-room v t g (cellWidth g w y) (cellHeight y) i p))
 
   -- a character
-  pub character-kept : (v : View) → Room g v (cellWidth w y) (cellHeight y) → Kept v (characterOf g font w y code v)
+  pub character-kept : (v : View) → Room g v (cellWidth g w y) (cellHeight y) → Kept v (characterOf g font w y code v)
   unfolding characterOf
   character-kept v i =
-      by-cond (Kept v) (leb (v .x + cellWidth w y) (v .width)) (λ _. draw-kept v i)
+      by-cond (Kept v) (leb (v .x + cellWidth g w y) (v .width)) (λ _. draw-kept v i)
       (λ _. by-cond (Kept v) (eqb (v .mode) 3)
-      (λ _. draw-after v (htOf g v (cellWidth w y) (cellHeight y)) i (ht-kept g v (cellWidth w y) (cellHeight y) i))
+      (λ _. draw-after v (htOf g v (cellWidth g w y) (cellHeight y)) i (ht-kept g v (cellWidth g w y) (cellHeight y) i))
       (λ _. draw-after v (blankTab g w y v) i (blank-kept g w y v i)))

@@ -5,7 +5,7 @@ use mathlib.Core.List.{List, [], _∷_}
 use Prim.Native.Nat.{ℕ}
 use native.Mathlib.Omega.{arith}
 use lib.ListN.{length, getD, List·getD-eq-default}
-use Rattle.paper.specs.declared.Geometry.{Geometry}
+use Rattle.paper.specs.declared.Module.{Module}
 use Rattle.paper.specs.declared.Rect.{Rect}
 use Rattle.paper.specs.Strokes.{Stroke, inRect, applied, applyAll}
 use Rattle.paper.specs.Carry.{byteMeans}
@@ -15,7 +15,7 @@ use Rattle.laws_memory.proofs.Rects.{InRect, rect-test}
 use Rattle.laws_memory.proofs.Strokes.{applied-length, applied-out, apply-length}
 use Rattle.laws_state.specs.Room.{Inside, AllIn}
 
-module _ (g : Geometry) where
+module _ (g : Module) where
   -- a piece keeps the memory's length
   pub length-run : (font : List ℕ) (f : Feeding) (bs : List ℕ) → length (run g font f bs .mem) ≡ length (f .mem)
   unfolding next

@@ -6,7 +6,7 @@ use Prim.Native.Nat.{ℕ, zero, suc, _+_, _<_, _≤_}
 use native.Mathlib.Omega.{arith}
 use lib.Dec.{leb, ltb, eqb}
 use borrow.Author.Tests.{leb-true, le-leb, ltb-true, lt-ltb, eqb-true, eqb-false, eq-eqb}
-use Rattle.paper.specs.declared.Geometry.{Geometry}
+use Rattle.paper.specs.declared.Module.{Module}
 use Rattle.paper.specs.declared.Settings.{Settings}
 use Rattle.paper.specs.declared.Cursor.{Cursor}
 use Rattle.paper.specs.declared.Window.{Window}
@@ -18,16 +18,16 @@ use Rattle.paper.specs.Bounds.{settingsOk, cursorOk, isBlank, windowOk, windows
 use Rattle.laws_bytes.proofs.Tests.{both-of, between-facts, between-true}
 use Rattle.laws_state.specs.Parts.{Parts}
 
-module _ (g : Geometry) (s : State) where
+module _ (g : Module) (s : State) where
   -- an accepted state has every part
   pub parts : accepted g s ≡ true → Parts g s
   unfolding accepted
   parts h =
-      let settings = both-of (settingsOk (s .settings)) _ h in
+      let settings = both-of (settingsOk g (s .settings)) _ h in
       let windows = both-of (windowsOk g (s .windows)) _ (settings .1) in
       let base = both-of (cursorOk (g .columns) (g .rows) (s .base)) _ (windows .1) in
       let selected = both-of (selectable (s .windows) (s .selected)) _ (base .1) in
-      let hold = both-of (holdOk (s .windows) (s .selected) (s .hold)) _ (selected .1) in
+      let hold = both-of (holdOk g (s .windows) (s .selected) (s .hold)) _ (selected .1) in
       let rest = both-of (halfOk g (s .half)) (spansOk g (s .spans)) (hold .1) in
       record {
         settings = settings .0;
@@ -72,7 +72,7 @@ unfolding cursorOk
 cursor-whole w h k e m = let f = both-of (ltb (k .x) w) (ltb (k .y) h) e in rw (f .0, f .1, m)
 
 -- the cursor of the base window or of another, whichever is selected, passes both
-pub picked-tests : (g : Geometry) (s : State) (base other : Cursor)
+pub picked-tests : (g : Module) (s : State) (base other : Cursor)
     → (eqb (s .selected) 0 ≡ true → InWindow (g .columns) (g .rows) base)
     → (eqb (s .selected) 0 ≡ false
     → InWindow (windowAt (s .windows) (s .selected) .width) (windowAt (s .windows) (s .selected) .height) other)
@@ -107,7 +107,7 @@ not-blank w true d i e =
     absurd (omega arith)
 not-blank w false d i e = e
 
-module _ (g : Geometry) where
+module _ (g : Module) where
   -- a rectangle of memory
   abbrev pub Fits : ℕ → ℕ → ℕ → ℕ → Type 0
   Fits left top width height =
@@ -185,7 +185,7 @@ selected-facts ws k e z =
     (omega arith, leb-true k 4 (f .0), f .1)
 
 -- the selected window, if it is not the base, lies in memory, and its cursor in it
-pub selected-window : (g : Geometry) (s : State) → Parts g s → eqb (s .selected) 0 ≡ false
+pub selected-window : (g : Module) (s : State) → Parts g s → eqb (s .selected) 0 ≡ false
     → let w = windowAt (s .windows) (s .selected) in
     Fits g (w .left) (w .top) (w .width) (w .height) × InWindow (w .width) (w .height) (w .cursor)
 selected-window g s p e =
@@ -196,22 +196,22 @@ selected-window g s p e =
 -- ---- holding
 
 -- window k held while `selected` is selected, `back` and `v` saved
-abbrev pub HeldWell : List Window → ℕ → ℕ → ℕ → Settings → Type 0
-HeldWell ws selected k back v =
-    (1 ≤ k) × (k ≡ selected) × (selectable ws k ≡ true) × (selectable ws back ≡ true) × (settingsOk v ≡ true)
+abbrev pub HeldWell : Module → List Window → ℕ → ℕ → ℕ → Settings → Type 0
+HeldWell g ws selected k back v =
+    (1 ≤ k) × (k ≡ selected) × (selectable ws k ≡ true) × (selectable ws back ≡ true) × (settingsOk g v ≡ true)
 
-module _ (ws : List Window) (selected k back : ℕ) (v : Settings) where
+module _ (g : Module) (ws : List Window) (selected k back : ℕ) (v : Settings) where
   -- the hold's test says so
-  pub hold-facts : holdOk ws selected (Held k back v) ≡ true → HeldWell ws selected k back v
+  pub hold-facts : holdOk g ws selected (Held k back v) ≡ true → HeldWell g ws selected k back v
   unfolding holdOk
   hold-facts e =
       let some = both-of (leb 1 k) _ e in
       let same = both-of (eqb k selected) _ (some .1) in
       let held = both-of (selectable ws k) _ (same .1) in
-      let saved = both-of (selectable ws back) (settingsOk v) (held .1) in
+      let saved = both-of (selectable ws back) (settingsOk g v) (held .1) in
       (leb-true 1 k (some .0), eqb-true k selected (same .0), held .0, saved .0, saved .1)
 
   -- and back
-  pub hold-true : HeldWell ws selected k back v → holdOk ws selected (Held k back v) ≡ true
+  pub hold-true : HeldWell g ws selected k back v → holdOk g ws selected (Held k back v) ≡ true
   unfolding holdOk
   hold-true f = rw (le-leb 1 k (f .0), eq-eqb k selected (f .1), f .2, f .3, f .4)

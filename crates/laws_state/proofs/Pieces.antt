@@ -5,7 +5,7 @@ use mathlib.Core.Bool.{Bool, true, false}
 use mathlib.Core.List.{List, _++_}
 use Prim.Native.Nat.{ℕ}
 use lib.ListN.{length}
-use Rattle.paper.specs.declared.Geometry.{Geometry}
+use Rattle.paper.specs.declared.Module.{Module}
 use Rattle.paper.specs.declared.Refusal.the-variants.{Accepted}
 use Rattle.paper.specs.declared.State.{State}
 use Rattle.paper.specs.Calls.{Feeding, isAccepted, feedRefusal, fedNothing, feedCall}
@@ -17,12 +17,12 @@ use Rattle.laws_state.proofs.Calls.{feed-keeps}
 use Rattle.laws_state.proofs.Outside.{length-run}
 
 -- a feed that is refused changes nothing
-refused-feed : (g : Geometry) (font : List ℕ) (s : State) (m piece : List ℕ) → isAccepted (feedRefusal g font s m) ≡ false
+refused-feed : (g : Module) (font : List ℕ) (s : State) (m piece : List ℕ) → isAccepted (feedRefusal g font s m) ≡ false
     → feedCall g font s m piece ≡ fedNothing (feedRefusal g font s m) s m
 unfolding feedCall
 refused-feed g font s m piece e = rw e
 
-module _ (g : Geometry) (u : Usable g) (font : List ℕ) where
+module _ (g : Module) (u : Usable g) (font : List ℕ) where
   -- after a feed that is not refused the next is not
   pub feed-again : (s : State) (m piece : List ℕ) → isAccepted (feedRefusal g font s m) ≡ true
       → feedRefusal g font (feedCall g font s m piece .answer .state) (feedCall g font s m piece .mem) ≡ Accepted

@@ -6,7 +6,7 @@ use mathlib.Core.List.{List, _∷_}
 use Prim.Native.Nat.{ℕ, _+_, _≤_}
 use native.Mathlib.Omega.{arith}
 use lib.ListN.{length}
-use Rattle.paper.specs.declared.Geometry.{Geometry}
+use Rattle.paper.specs.declared.Module.{Module}
 use Rattle.paper.specs.Bounds.{accepted}
 use Rattle.paper.specs.Carry.{byteMeans}
 use Rattle.paper.specs.Calls.{Feeding, next, run}
@@ -15,7 +15,7 @@ use Rattle.laws_state.specs.Room.{Usable}
 use Rattle.laws_state.specs.Runs.{Reaches, here, byte}
 use Rattle.laws_state.proofs.Accepted.{accepted-kept}
 
-module _ {g : Geometry} {font : List ℕ} where
+module _ {g : Module} {font : List ℕ} where
   -- a byte, and from what it comes to
   pub reaches-next : {x n y : Feeding} (b : ℕ) {bs rest : List ℕ} → next g font x b ≡ n → Reaches g font n bs y rest → Reaches g font x (b ∷ bs) y rest
   reaches-next {x} {n} {y} b {bs} {rest} e p = byte {x = x} {y = y} {b = b} {bs = bs} {rest = rest} (rw e p)

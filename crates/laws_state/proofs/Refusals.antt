@@ -6,7 +6,7 @@ use Prim.Native.Nat.{ℕ}
 use lib.Dec.{eqb}
 use lib.ListN.{length}
 use borrow.Author.Tests.{eqb-true, eq-eqb, not-false}
-use Rattle.paper.specs.declared.Geometry.{Geometry}
+use Rattle.paper.specs.declared.Module.{Module}
 use Rattle.paper.specs.declared.Refusal.{Refusal}
 use Rattle.paper.specs.declared.Refusal.the-variants.{Accepted, MemoryLength, FontLength, NoSuchWindow, UndefinedWindow, HeldAlready, BrokenState}
 use Rattle.paper.specs.declared.State.{State}
@@ -27,22 +27,22 @@ passed false r q n e = (refl, e)
 right-length : (n : ℕ) (l : List ℕ) → isNot n l ≡ false → length l ≡ n
 right-length n l e = eqb-true (length l) n (not-false (eqb (length l) n) e)
 
-module _ (g : Geometry) where
+module _ (g : Module) where
   -- a feed that is not refused
   pub feed-given : (font : List ℕ) (s : State) (m : List ℕ) → isAccepted (feedRefusal g font s m) ≡ true
-      → (length m ≡ memoryLength g) × (length font ≡ fontLength) × (accepted g s ≡ true)
+      → (length m ≡ memoryLength g) × (length font ≡ fontLength g) × (accepted g s ≡ true)
   unfolding feedRefusal isAccepted
   feed-given font s m e =
       let a = passed (isNot (memoryLength g) m) MemoryLength _ refl e in
-      let b = passed (isNot fontLength font) FontLength _ refl (a .1) in
+      let b = passed (isNot (fontLength g) font) FontLength _ refl (a .1) in
       let c = passed (not (accepted g s)) BrokenState Accepted refl (b .1) in
-      (right-length (memoryLength g) m (a .0), right-length fontLength font (b .0), not-false (accepted g s) (c .0))
+      (right-length (memoryLength g) m (a .0), right-length (fontLength g) font (b .0), not-false (accepted g s) (c .0))
 
   -- and back
-  pub feed-taken : (font : List ℕ) (s : State) (m : List ℕ) → length m ≡ memoryLength g → length font ≡ fontLength
+  pub feed-taken : (font : List ℕ) (s : State) (m : List ℕ) → length m ≡ memoryLength g → length font ≡ fontLength g
       → accepted g s ≡ true → feedRefusal g font s m ≡ Accepted
   unfolding feedRefusal
-  feed-taken font s m l f h = rw (eq-eqb (length m) (memoryLength g) l, eq-eqb (length font) fontLength f, h)
+  feed-taken font s m l f h = rw (eq-eqb (length m) (memoryLength g) l, eq-eqb (length font) (fontLength g) f, h)
 
   -- a hold that is not refused
   pub hold-given : (s : State) (k : ℕ) → isAccepted (holdRefusal g s k) ≡ true

@@ -8,7 +8,7 @@ use native.Mathlib.Omega.{arith}
 use lib.ListN.{length}
 use lib.Dec.{leb, ltb, eqb}
 use borrow.Author.Tests.{ltb-true, ltb-false, eqb-false, eq-eqb, ne-eqb}
-use Rattle.paper.specs.declared.Geometry.{Geometry}
+use Rattle.paper.specs.declared.Module.{Module}
 use Rattle.paper.specs.declared.Command.the-variants.{Character}
 use Rattle.paper.specs.declared.Half.{Half}
 use Rattle.paper.specs.declared.Half.the-variants.{Nothing, ImageData}
@@ -48,12 +48,12 @@ within-kept u v t i k =
     }
 
 -- a cell that has room has it with the cursor elsewhere
-pub within-room : (g : Geometry) (u v : View) (c l : ℕ) → Room g u c l → Within u v → Room g v c l
+pub within-room : (g : Module) (u v : View) (c l : ℕ) → Room g u c l → Within u v → Room g v c l
 within-room g u v c l r i = omega arith
 
 -- ---- characters
 
-module _ (g : Geometry) (font : List ℕ) where
+module _ (g : Module) (font : List ℕ) where
   -- a character that comes while nothing is half read and a cell has room
   pub character-means : (s : State) (b : ℕ) → s .half ≡ Nothing → leb 0x20 b ≡ true → exceeds g s ≡ false
       → byteMeans g font s b ≡ moves s (characterOf g font (s .settings .width) (s .settings .style) b (viewOf g s))
@@ -138,7 +138,7 @@ pub column-next : (z : Bool) (column width : ℕ) → column < width → eqb (co
 column-next true column width l e = l
 column-next false column width l e = let n = eqb-false (column + 1) width e in omega arith
 
-module _ (g : Geometry) (font : List ℕ) (s : State) (r : Refusal) (a width height : ℕ) where
+module _ (g : Module) (font : List ℕ) (s : State) (r : Refusal) (a width height : ℕ) where
   -- the image after a byte, in the state's range and settings
   abbrev pub imaged : Image → ℕ → Image
   imaged i b = storedOn g (viewOf g s) (s .settings .style) height i b

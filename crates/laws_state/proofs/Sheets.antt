@@ -8,7 +8,7 @@ use native.Mathlib.Omega.{arith}
 use lib.ListN.{getD, set}
 use lib.Dec.{ltb, eqb}
 use borrow.Author.Tests.{ltb-false, lt-ltb, le-ltb}
-use Rattle.paper.specs.declared.Geometry.{Geometry}
+use Rattle.paper.specs.declared.Module.{Module}
 use Rattle.paper.specs.declared.Cursor.{Cursor}
 use Rattle.paper.specs.declared.Span.{Span}
 use Rattle.paper.specs.declared.State.{State}
@@ -47,7 +47,7 @@ view-by : (v : View) (left top width height x y : ℕ) → left ≡ v .left → 
 view-by v left top width height x y e1 e2 e3 e4 e5 e6 = rw (e1, e2, e3, e4, e5, e6)
 
 -- the base's range, with the cursor where a view of it has it
-base-back : (g : Geometry) (write : ℕ) (k : Cursor) (v : View) → g .visible ≤ g .columns → Within (baseView g write k) v
+base-back : (g : Module) (write : ℕ) (k : Cursor) (v : View) → g .visible ≤ g .columns → Within (baseView g write k) v
     → baseView g write (cursor (v .left + v .x) (v .top + v .y) (v .mode)) ≡ v
 unfolding baseView
 base-back g write k v part i = go (eqb write 1) (ltb (k .x) (g .visible)) i where
@@ -74,7 +74,7 @@ window-back (w ∷ ws) zero v i = view-by v _ _ _ _ _ _ (sym (i .left)) (sym (i 
 window-back (w ∷ ws) (suc k) v i = window-back ws k v i
 
 -- the view of a state is the view that was put into it
-pub view-back : (g : Geometry) (s : State) (v : View) → g .visible ≤ g .columns → Within (viewOf g s) v → viewOf g (withView s v) ≡ v
+pub view-back : (g : Module) (s : State) (v : View) → g .visible ≤ g .columns → Within (viewOf g s) v → viewOf g (withView s v) ≡ v
 unfolding viewOf atCursor cursorIn
 view-back g s v part i = go (eqb (s .selected) 0) refl i where
   go : (t : Bool) → eqb (s .selected) 0 ≡ t
@@ -113,7 +113,7 @@ sheet-twice s u v ps qs = go (eqb (s .selected) 0) refl where
       (set-twice (s .windows) (s .selected - 1) (cursor (u .x) (u .y) (u .mode)) (cursor (v .x) (v .y) (v .mode))))
 
 -- the base's cursor by its view
-base-same : (g : Geometry) (write : ℕ) (k : Cursor)
+base-same : (g : Module) (write : ℕ) (k : Cursor)
     → cursor (baseView g write k .left + baseView g write k .x) (baseView g write k .top + baseView g write k .y) (baseView g write k .mode) ≡ k
 unfolding baseView
 base-same g write k =
@@ -125,7 +125,7 @@ base-same g write k =
     at e f = ap₂ (λ (x y : ℕ). cursor x y (k .mode)) e f
 
 -- the view that a state has, put into it
-pub view-same : (g : Geometry) (s : State) → withView s (viewOf g s) ≡ s
+pub view-same : (g : Module) (s : State) → withView s (viewOf g s) ≡ s
 unfolding viewOf atCursor cursorIn
 view-same g s = go (eqb (s .selected) 0) refl where
   go : (t : Bool) → eqb (s .selected) 0 ≡ t → withView s (viewOf g s) ≡ s
@@ -138,7 +138,7 @@ view-same g s = go (eqb (s .selected) 0) refl where
 
 -- ---- what a run leaves as it was
 
-module _ (g : Geometry) (part : g .visible ≤ g .columns) (s : State) (h : Sheet) (i : Within (viewOf g s) (h .view)) where
+module _ (g : Module) (part : g .visible ≤ g .columns) (s : State) (h : Sheet) (i : Within (viewOf g s) (h .view)) where
   -- the view is the sheet's
   pub sheet-view : viewOf g (onSheet s h) ≡ h .view
   unfolding viewOf

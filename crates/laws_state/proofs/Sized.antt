@@ -4,7 +4,7 @@ use mathlib.Core.List.{List, [], _∷_}
 use Prim.Native.Nat.{ℕ, _-_}
 use lib.Dec.{eqb}
 use lib.ListN.{length, length-set, length-replicate}
-use Rattle.paper.specs.declared.Geometry.{Geometry}
+use Rattle.paper.specs.declared.Module.{Module}
 use Rattle.paper.specs.declared.Cursor.{Cursor}
 use Rattle.paper.specs.declared.Window.{Window}
 use Rattle.paper.specs.declared.Half.the-variants.{Nothing}
@@ -53,7 +53,7 @@ module _ (s : State) where
       by-cond (Alike s) (eqb (s .selected) k) (λ _. set-alike k 0 noWindow) (λ _. set-alike k (s .selected) noWindow)
 
   -- every command
-  carried-alike : (g : Geometry) (font : List ℕ) (c : Command) → Alike s (carriedOut g font s c .state)
+  carried-alike : (g : Module) (font : List ℕ) (c : Command) → Alike s (carriedOut g font s c .state)
   unfolding carriedOut inMode initialState
   carried-alike g font (Character b) = at-alike _
   carried-alike g font Back = at-alike _
@@ -72,7 +72,7 @@ module _ (s : State) where
   carried-alike g font (Cancel k) = cancelled-alike k
   carried-alike g font Uncarried = alike s s refl refl
 
-module _ (g : Geometry) (font : List ℕ) where
+module _ (g : Module) (font : List ℕ) where
   -- every byte
   byte-alike : (s : State) (b : ℕ) → Alike (withHalf s Nothing) (byteMeans g font s b .state)
   byte-alike s b =
@@ -101,7 +101,7 @@ module _ (g : Geometry) (font : List ℕ) where
 
 -- ---- the calls, refused or not
 
-module _ (g : Geometry) where
+module _ (g : Module) where
   -- the initial state
   pub initial-sized : Sized g (initialState g)
   unfolding initialState

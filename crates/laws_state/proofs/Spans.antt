@@ -4,7 +4,7 @@ use mathlib.Core.Bool.{true}
 use mathlib.Core.List.{List, [], _∷_}
 use Prim.Native.Nat.{ℕ}
 use lib.ListN.{getD}
-use Rattle.paper.specs.declared.Geometry.{Geometry}
+use Rattle.paper.specs.declared.Module.{Module}
 use Rattle.paper.specs.declared.Refusal.the-variants.{Accepted}
 use Rattle.paper.specs.declared.State.{State}
 use Rattle.paper.specs.Strokes.{noSpan, spanHolds}
@@ -14,7 +14,7 @@ use Rattle.laws_state.proofs.Tests.{by-cond}
 use Rattle.laws_state.proofs.Marks.{marks-hold}
 use Rattle.laws_state.proofs.Sized.{byte-spans}
 
-module _ (g : Geometry) (font : List ℕ) where
+module _ (g : Module) (font : List ℕ) where
   -- a column that row r's span holds is held after a byte
   pub byte-holds : (s : State) (b r x : ℕ) → spanHolds (getD (s .spans) r noSpan) x ≡ true
       → spanHolds (getD (settled (byteMeans g font s b) .spans) r noSpan) x ≡ true

@@ -8,7 +8,7 @@ use lib.ListN.{length, getD, drop, drop-of-length-le}
 use lib.Seq.{drop-cons}
 use lib.Dec.{eqb}
 use borrow.Author.Tests.{le-leb, lt-leb}
-use Rattle.paper.specs.declared.Geometry.{Geometry}
+use Rattle.paper.specs.declared.Module.{Module}
 use Rattle.paper.specs.declared.Style.{Style}
 use Rattle.paper.specs.declared.View.{View}
 use Rattle.laws_state.specs.Runs.{Sheet, writtenOn, written, charactersOf, Image, storedOn, stored, imageBytesOf}
@@ -17,7 +17,7 @@ use Rattle.laws_state.specs.Runs.{Sheet, writtenOn, written, charactersO
 pub from-here : (bs : List ℕ) (i : ℕ) → i < length bs → drop i bs ≡ getD bs i 0 ∷ drop (i + 1) bs
 from-here bs i l = rw (add-one i) (drop-cons bs i 0 l)
 
-module _ (g : Geometry) (font : List ℕ) (w : ℕ) (y : Style) (bs : List ℕ) (i : ℕ) (h : Sheet) where
+module _ (g : Module) (font : List ℕ) (w : ℕ) (y : Style) (bs : List ℕ) (i : ℕ) (h : Sheet) where
   -- a character is drawn
   pub characters-more : {h′ : Sheet} → i < length bs → 0x20 ≤ getD bs i 0 → h′ ≡ writtenOn g font w y h (getD bs i 0)
       → charactersOf g font w y h′ (drop (i + 1) bs) ≡ charactersOf g font w y h (drop i bs)
@@ -31,7 +31,7 @@ module _ (g : Geometry) (font : List ℕ) (w : ℕ) (y : Style) (bs : List ℕ) 
   pub characters-end : length bs ≤ i → written h (drop i bs) ≡ charactersOf g font w y h (drop i bs)
   characters-end b = rw (drop-of-length-le bs {i = i} b)
 
-module _ (g : Geometry) (v : View) (y : Style) (width height : ℕ) (bs : List ℕ) (i : ℕ) (m : Image) where
+module _ (g : Module) (v : View) (y : Style) (width height : ℕ) (bs : List ℕ) (i : ℕ) (m : Image) where
   -- a byte is stored, and the image is not whole
   pub image-bytes-more : {m′ : Image} → i < length bs → m′ ≡ storedOn g v y height m (getD bs i 0) → eqb (m′ .column) width ≡ false
       → imageBytesOf g v y width height m′ (drop (i + 1) bs) ≡ imageBytesOf g v y width height m (drop i bs)

@@ -5,12 +5,12 @@ use Prim.Native.Nat.{ℕ, _+_, _≤_}
 use native.Mathlib.Omega.{arith}
 use lib.Dec.{ltb, eqb}
 use borrow.Author.Tests.{ltb-true, ltb-false}
-use Rattle.paper.specs.declared.Geometry.{Geometry}
+use Rattle.paper.specs.declared.Module.{Module}
 use Rattle.paper.specs.declared.Cursor.{Cursor}
 use Rattle.paper.specs.declared.View.{View}
 use Rattle.paper.specs.declared.State.{State}
 use Rattle.paper.specs.Panel.{panel}
-use Rattle.paper.specs.Settings.{windowAt, cursor, baseView, windowView, viewOf, cursorIn, withView}
+use Rattle.paper.specs.Settings.{inDomain, windowAt, cursor, baseView, windowView, viewOf, cursorIn, withView}
 use Rattle.paper.specs.Bounds.{cursorOk, accepted}
 use Rattle.paper.specs.Cells.{tooLarge}
 use Rattle.paper.specs.Moves.{Moved}
@@ -23,16 +23,27 @@ use Rattle.laws_state.proofs.Builders.{cursor-parts}
 
 -- the 112 by 16 module is usable
 pub panel-usable : Usable panel
-unfolding panel
-panel-usable = omega arith
+unfolding panel inDomain
+panel-usable =
+    record {
+      rows-some = omega arith;
+      visible-some = omega arith;
+      visible-part = omega arith;
+      small = omega arith;
+      columns-small = omega arith;
+      rows-small = omega arith;
+      glyph-some = omega arith;
+      glyph-small = omega arith;
+      bright = refl;
+    }
 
 -- the range of a user window is its rectangle
-pub view-window : (g : Geometry) (s : State) → eqb (s .selected) 0 ≡ false
+pub view-window : (g : Module) (s : State) → eqb (s .selected) 0 ≡ false
     → viewOf g s ≡ windowView (windowAt (s .windows) (s .selected))
 unfolding viewOf
 view-window g s e = rw e
 
-module _ (g : Geometry) (u : Usable g) where
+module _ (g : Module) (u : Usable g) where
   -- the base's range lies in memory
   base-place : (write : ℕ) (k : Cursor) → cursorOk (g .columns) (g .rows) k ≡ true → InMemory g (baseView g write k)
   unfolding baseView
@@ -71,13 +82,13 @@ module _ (g : Geometry) (u : Usable g) where
         (λ e. let f = selected-window g s p e in omega arith)
 
     -- a cell that is not too large has room
-    pub view-room : exceeds g s ≡ false → Room g (viewOf g s) (widthNow s) (heightNow s)
+    pub view-room : exceeds g s ≡ false → Room g (viewOf g s) (widthNow g s) (heightNow s)
     unfolding tooLarge
     view-room e =
-        let f = neither (ltb (viewOf g s .width) (widthNow s)) (ltb (viewOf g s .height) (heightNow s)) e in
+        let f = neither (ltb (viewOf g s .width) (widthNow g s)) (ltb (viewOf g s .height) (heightNow s)) e in
         let i = view-place in
-        let c = cell-size (s .settings) (parts g s h .settings) in
-        let w = ltb-false (viewOf g s .width) (widthNow s) (f .0) in
+        let c = cell-size g (s .settings) (parts g s h .settings) u in
+        let w = ltb-false (viewOf g s .width) (widthNow g s) (f .0) in
         let l = ltb-false (viewOf g s .height) (heightNow s) (f .1) in
         omega arith
 

@@ -4,7 +4,7 @@ use mathlib.Core.Bool.{true, false}
 use mathlib.Core.List.{List}
 use Prim.Native.Nat.{ℕ, _<_, _≤_}
 use lib.ListN.{getD}
-use Rattle.paper.specs.declared.Geometry.{Geometry}
+use Rattle.paper.specs.declared.Module.{Module}
 use Rattle.paper.specs.declared.Rect.{Rect}
 use Rattle.paper.specs.declared.Settings.{Settings}
 use Rattle.paper.specs.declared.Hold.the-variants.{Held}
@@ -15,7 +15,7 @@ use Rattle.paper.specs.Settings.{windowAt}
 use Rattle.paper.specs.Bounds.{accepted}
 
 -- an accepted state in which window k is held, `back` saved as selected and `v` as settings
-pub record Holding (g : Geometry) (k back : ℕ) (v : Settings) (s : State) : Type 0 where
+pub record Holding (g : Module) (k back : ℕ) (v : Settings) (s : State) : Type 0 where
   pub accepts : accepted g s ≡ true
   pub held : s .hold ≡ Held k back v
 
@@ -38,5 +38,5 @@ abbrev pub windowRect : Window → Rect
 windowRect w = rectAt (w .left) (w .top) (w .width) (w .height)
 
 -- no address outside window k's rectangle changed between memory m and memory n
-pub record OnlyInside (g : Geometry) (k : ℕ) (s : State) (m n : List ℕ) : Type 0 where
+pub record OnlyInside (g : Module) (k : ℕ) (s : State) (m n : List ℕ) : Type 0 where
   pub same : (a : ℕ) → inRect g (windowRect (windowAt (s .windows) k)) a ≡ false → getD n a 0 ≡ getD m a 0

@@ -5,3 +5,4 @@ pub mod Sized
 pub mod Guest
 pub mod Joined
 pub mod Runs
+pub mod Told

@@ -1,35 +1,42 @@
--- What moves need and keep, as records: a usable geometry, a view in memory, room for a cell, strokes inside a rectangle.
+-- What moves need and keep, as records: a usable module, a view in memory, room for a cell, strokes inside a rectangle.
 -- Assumes nothing.
 use mathlib.Core.Path.{_≡_}
+use mathlib.Core.Bool.{true}
 use mathlib.Core.List.{List, [], _∷_}
 use Prim.Native.Nat.{ℕ, _+_, _<_, _≤_}
-use Rattle.paper.specs.declared.Geometry.{Geometry}
+use Rattle.paper.specs.declared.Module.{Module}
 use Rattle.paper.specs.declared.Rect.{Rect}
 use Rattle.paper.specs.declared.Settings.{Settings}
 use Rattle.paper.specs.declared.View.{View}
+use Rattle.paper.specs.declared.Key.the-variants.{Brightness}
 use Rattle.paper.specs.Panel.{memoryLength}
 use Rattle.paper.specs.Strokes.{Stroke}
+use Rattle.paper.specs.Settings.{inDomain}
 use Rattle.paper.specs.Cells.{cellWidth, cellHeight, rangeOf}
 use Rattle.paper.specs.Moves.{Moved}
 
--- a geometry for which the laws hold: some rows, some visible and some hidden columns, and addresses that code can count
-pub record Usable (g : Geometry) : Type 0 where
+-- a module for which the laws hold: some rows, some visible and some hidden columns, addresses that code can count, a glyph of some
+-- columns but no more than 8, and an initial brightness that is one
+pub record Usable (g : Module) : Type 0 where
   pub rows-some : 0 < g .rows
   pub visible-some : 0 < g .visible
   pub visible-part : g .visible < g .columns
   pub small : memoryLength g ≤ 65536
   pub columns-small : g .columns < 65536
   pub rows-small : g .rows < 65536
+  pub glyph-some : 0 < g .glyph
+  pub glyph-small : g .glyph ≤ 8
+  pub bright : inDomain g Brightness (g .brightness) ≡ true
 
 -- a range that lies in memory, with its cursor in it
-pub record InMemory (g : Geometry) (v : View) : Type 0 where
+pub record InMemory (g : Module) (v : View) : Type 0 where
   pub across : v .left + v .width ≤ g .columns
   pub down : v .top + v .height ≤ g .rows
   pub x : v .x < v .width
   pub y : v .y < v .height
 
 -- and a cell, c columns wide and l rows high, that does not exceed it
-pub record Room (g : Geometry) (v : View) (c l : ℕ) : Type 0 where
+pub record Room (g : Module) (v : View) (c l : ℕ) : Type 0 where
   pub place : InMemory g v
   pub c-some : 0 < c
   pub c-fits : c ≤ v .width
@@ -37,9 +44,9 @@ pub record Room (g : Geometry) (v : View) (c l : ℕ) : Type 0 where
   pub l-fits : l ≤ v .height
 
 -- the sizes of a cell that settings can ask for
-pub record CellSize (v : Settings) : Type 0 where
-  pub narrow : 6 ≤ cellWidth (v .width) (v .style)
-  pub wide : cellWidth (v .width) (v .style) ≤ 28
+pub record CellSize (g : Module) (v : Settings) : Type 0 where
+  pub narrow : 1 ≤ cellWidth g (v .width) (v .style)
+  pub wide : cellWidth g (v .width) (v .style) ≤ 40
   pub low : 1 ≤ cellHeight (v .style)
   pub high : cellHeight (v .style) ≤ 2
 

@@ -4,7 +4,7 @@ use mathlib.Core.List.{List, [], _∷_}
 use mathlib.Core.Path.{_≡_}
 use Prim.Native.Nat.{ℕ, _+_, _<_}
 use lib.Dec.{leb, ltb, eqb}
-use Rattle.paper.specs.declared.Geometry.{Geometry}
+use Rattle.paper.specs.declared.Module.{Module}
 use Rattle.paper.specs.declared.Span.{Span}
 use Rattle.paper.specs.declared.State.{State}
 use Rattle.paper.specs.declared.Style.{Style}
@@ -22,7 +22,7 @@ use Rattle.paper.specs.Calls.{Feeding, next}
 -- ---- what is fed and what is left
 
 -- feeding the bytes bs after x comes, byte by byte, to y with rest left
-pub data Reaches (g : Geometry) (font : List ℕ) : Feeding → List ℕ → Feeding → List ℕ → Type 0 where
+pub data Reaches (g : Module) (font : List ℕ) : Feeding → List ℕ → Feeding → List ℕ → Type 0 where
   here : {x : Feeding} {bs : List ℕ} → Reaches g font x bs x bs
   byte : {x y : Feeding} {b : ℕ} {bs rest : List ℕ} → Reaches g font (next g font x b) bs y rest → Reaches g font x (b ∷ bs) y rest
 
@@ -38,11 +38,11 @@ abbrev pub sheet : View → List Span → List ℕ → Sheet
 sheet v ps m = record { view = v; spans = ps; mem = m }
 
 -- after a move: its strokes grow the spans and move the memory
-abbrev pub movedOn : Geometry → Sheet → Moved → Sheet
+abbrev pub movedOn : Module → Sheet → Moved → Sheet
 movedOn g h t = sheet (t .view) (markAll (h .spans) (t .strokes)) (applyAll g (h .mem) (t .strokes))
 
 -- after a character
-abbrev pub writtenOn : Geometry → List ℕ → ℕ → Style → Sheet → ℕ → Sheet
+abbrev pub writtenOn : Module → List ℕ → ℕ → Style → Sheet → ℕ → Sheet
 writtenOn g font w y h b = movedOn g h (characterOf g font w y b (h .view))
 
 pub record Written : Type 0 where
@@ -53,7 +53,7 @@ abbrev pub written : Sheet → List ℕ → Written
 written h rest = record { on = h; rest = rest }
 
 -- the characters that bytes begin with, and the bytes from the first that is none
-abbrev pub charactersOf : Geometry → List ℕ → ℕ → Style → Sheet → List ℕ → Written
+abbrev pub charactersOf : Module → List ℕ → ℕ → Style → Sheet → List ℕ → Written
 charactersOf g font w y h [] = written h []
 charactersOf g font w y h (b ∷ bs) =
     cond (leb 0x20 b) (charactersOf g font w y (writtenOn g font w y h b) bs) (written h (b ∷ bs))
@@ -84,7 +84,7 @@ abbrev pub image : List Span → List ℕ → ℕ → ℕ → Image
 image ps m column row = record { spans = ps; mem = m; column = column; row = row }
 
 -- after a byte: "column by column, top first"
-abbrev pub storedOn : Geometry → View → Style → ℕ → Image → ℕ → Image
+abbrev pub storedOn : Module → View → Style → ℕ → Image → ℕ → Image
 storedOn g v y height i b =
     image (markAll (i .spans) (imageStrokes v y (i .column) (i .row) b)) (applyAll g (i .mem) (imageStrokes v y (i .column) (i .row) b))
     (cond (ltb (i .row + 1) height) (i .column) (i .column + 1)) (cond (ltb (i .row + 1) height) (i .row + 1) 0)
@@ -97,7 +97,7 @@ abbrev pub stored : Image → List ℕ → Stored
 stored i rest = record { on = i; rest = rest }
 
 -- the bytes of an image that bytes begin with: all of them, or up to the image's last, after which the column is the width
-abbrev pub imageBytesOf : Geometry → View → Style → ℕ → ℕ → Image → List ℕ → Stored
+abbrev pub imageBytesOf : Module → View → Style → ℕ → ℕ → Image → List ℕ → Stored
 imageBytesOf g v y width height i [] = stored i []
 imageBytesOf g v y width height i (b ∷ bs) =
     cond (eqb (storedOn g v y height i b .column) width) (stored (storedOn g v y height i b) bs)

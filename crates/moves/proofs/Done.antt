@@ -2,7 +2,7 @@
 use mathlib.Core.Path.{_≡_, refl, sym, ap, ap₂, _∙_}
 use mathlib.Core.List.{List}
 use Prim.Native.Nat.{ℕ}
-use Rattle.paper.specs.declared.Geometry.{Geometry}
+use Rattle.paper.specs.declared.Module.{Module}
 use Rattle.paper.specs.declared.Span.{Span}
 use Rattle.paper.specs.declared.View.{View}
 use Rattle.paper.specs.Strokes.{Stroke, applied, applyAll, markRect, markAll}
@@ -16,7 +16,7 @@ use Rattle.moves.specs.Does.{Does, spot}
 pub spot-at : {u v : View} {ps : List Span} → u ≡ v → spot u ps ≡ spot v ps
 spot-at {ps} e = ap (λ (w : View). spot w ps) e
 
-module _ {g : Geometry} {ps : List Span} {m : List ℕ} where
+module _ {g : Module} {ps : List Span} {m : List ℕ} where
   -- the cursor went to v and nothing was written
   pub does-only : {p : Spot} (v : View) → p ≡ spot v ps → Does g ps m p m (only v)
   does-only v e = record { view = ap (λ (p : Spot). p .view) e; spans = ap (λ (p : Spot). p .spans) e; mem = refl }

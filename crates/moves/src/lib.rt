@@ -1,7 +1,7 @@
 // Moves: HT, BS, LF and CLR over a view: where the cursor goes, what memory holds, how the spans grow.
 // It may use the dots; it knows nothing of characters, windows, settings or how bytes are read.
 // Each contract says that what was done is what the paper's move of the same name means.
-use paper::Geometry;
+use paper::Module;
 use paper::Rect;
 use paper::Span;
 use paper::View;
@@ -73,17 +73,17 @@ fn room_below(v: View, l: usize) -> bool
     y + 2 * l <= v.height
 }
 
-// The line of cells below, or the top one, in the same column.
-fn line_down(v: View, l: usize) -> View
+// The line of cells below; without room, the top one in the column that the module says.
+fn line_down(g: Module, v: View, l: usize) -> View
     requires { ⌜ (v .y < v .height) × (l ≤ v .height) × (v .height < 65536) ⌝ }
-    ensures { λ r. ⌜ r ≡ lineDown v l ⌝ }
+    ensures { λ r. ⌜ r ≡ lineDown g v l ⌝ }
 {
     let x = v.x;
     let y = v.y;
     if room_below(v, l) {
         return to(v, x, y + l);
     }
-    to(v, x, 0)
+    if g.keeps { to(v, x, 0) } else { to(v, 0, 0) }
 }
 
 // ---- HT
@@ -93,11 +93,14 @@ fn next_line(v: View, l: usize) -> View
     requires { ⌜ (v .y < v .height) × (l ≤ v .height) × (v .height < 65536) ⌝ }
     ensures { λ r. ⌜ r ≡ nextLine v l ⌝ }
 {
-    line_down(to(v, 0, v.y), l)
+    if room_below(v, l) {
+        return to(v, 0, v.y + l);
+    }
+    to(v, 0, 0)
 }
 
 // The range moves up l rows, and all of it is written; the cursor stays.
-fn scroll(g: Geometry, mem: &mut [u8], p: Spot, l: usize) -> Spot
+fn scroll(g: Module, mem: &mut [u8], p: Spot, l: usize) -> Spot
     requires { ⌜ Usable g × (InMemory g (p .view) × Fits g (now mem)) ⌝ }
     ensures { λ r. ⌜ Does g (p .spans) (now (mem .entry)) r (now (mem .exit)) (writing (upStroke g (p .view) l) (p .view)) ⌝ }
 {
@@ -108,7 +111,7 @@ fn scroll(g: Geometry, mem: &mut [u8], p: Spot, l: usize) -> Spot
 }
 
 // The next line of cells; without room the range scrolls up.
-fn next_line_up(g: Geometry, mem: &mut [u8], p: Spot, l: usize) -> Spot
+fn next_line_up(g: Module, mem: &mut [u8], p: Spot, l: usize) -> Spot
     requires { ⌜ Usable g × (InMemory g (p .view) × ((l ≤ p .view .height) × Fits g (now mem))) ⌝ }
     ensures { λ r. ⌜ Does g (p .spans) (now (mem .entry)) r (now (mem .exit)) (nextLineUp g (p .view) l) ⌝ }
 {
@@ -123,7 +126,7 @@ fn next_line_up(g: Geometry, mem: &mut [u8], p: Spot, l: usize) -> Spot
 }
 
 // The cursor's rows move left until a cell fits at the right end.
-pub fn push_left(g: Geometry, mem: &mut [u8], p: Spot, c: usize, l: usize) -> Spot
+pub fn push_left(g: Module, mem: &mut [u8], p: Spot, c: usize, l: usize) -> Spot
     requires { ⌜ Usable g × (Room g (p .view) c l × ((p .view .width < p .view .x + 2 * c) × Fits g (now mem))) ⌝ }
     ensures { λ r. ⌜ Does g (p .spans) (now (mem .entry)) r (now (mem .exit)) (pushLeft g (p .view) c l) ⌝ }
 {
@@ -141,7 +144,7 @@ pub fn push_left(g: Geometry, mem: &mut [u8], p: Spot, c: usize, l: usize) -> Sp
 }
 
 // HT.
-pub fn tab(g: Geometry, mem: &mut [u8], p: Spot, c: usize, l: usize) -> Spot
+pub fn tab(g: Module, mem: &mut [u8], p: Spot, c: usize, l: usize) -> Spot
     requires { ⌜ Usable g × (Room g (p .view) c l × Fits g (now mem)) ⌝ }
     ensures { λ r. ⌜ Does g (p .spans) (now (mem .entry)) r (now (mem .exit)) (htOf g (p .view) c l) ⌝ }
 {
@@ -186,7 +189,7 @@ pub fn back(v: View, c: usize, l: usize) -> View
 }
 
 // The line of cells below; without room the range scrolls up under the cursor.
-fn line_down_up(g: Geometry, mem: &mut [u8], p: Spot, l: usize) -> Spot
+fn line_down_up(g: Module, mem: &mut [u8], p: Spot, l: usize) -> Spot
     requires { ⌜ Usable g × (InMemory g (p .view) × ((l ≤ p .view .height) × Fits g (now mem))) ⌝ }
     ensures { λ r. ⌜ Does g (p .spans) (now (mem .entry)) r (now (mem .exit)) (lineDownUp g (p .view) l) ⌝ }
 {
@@ -200,7 +203,7 @@ fn line_down_up(g: Geometry, mem: &mut [u8], p: Spot, l: usize) -> Spot
 }
 
 // LF.
-pub fn line_feed(g: Geometry, mem: &mut [u8], p: Spot, l: usize) -> Spot
+pub fn line_feed(g: Module, mem: &mut [u8], p: Spot, l: usize) -> Spot
     requires { ⌜ Usable g × (InMemory g (p .view) × ((l ≤ p .view .height) × Fits g (now mem))) ⌝ }
     ensures { λ r. ⌜ Does g (p .spans) (now (mem .entry)) r (now (mem .exit)) (lineFeedOf g (p .view) l) ⌝ }
 {
@@ -208,7 +211,7 @@ pub fn line_feed(g: Geometry, mem: &mut [u8], p: Spot, l: usize) -> Spot
     let mode = v.mode;
     if mode == 1 {
         return Spot {
-            view: line_down(v, l),
+            view: line_down(g, v, l),
             ..p
         };
     }
@@ -219,7 +222,7 @@ pub fn line_feed(g: Geometry, mem: &mut [u8], p: Spot, l: usize) -> Spot
 }
 
 // CLR.
-pub fn clear(g: Geometry, mem: &mut [u8], p: Spot) -> Spot
+pub fn clear(g: Module, mem: &mut [u8], p: Spot) -> Spot
     requires { ⌜ Usable g × (InMemory g (p .view) × Fits g (now mem)) ⌝ }
     ensures { λ r. ⌜ Does g (p .spans) (now (mem .entry)) r (now (mem .exit)) (clearOf (p .view)) ⌝ }
 {

@@ -12,7 +12,7 @@ use Rattle.paper.specs.declared.State.{State}
 use Rattle.paper.specs.Panel.{panel}
 use Rattle.paper.specs.Numbers.{refusalNumber, outcomeNumber}
 use Rattle.paper.specs.Calls.{startCall, feedCall, holdCall, releaseCall, refreshCall}
-use Rattle.panel.specs.Told as told
+use Rattle.laws_state.specs.Told as told
 use Rattle.record_write.specs.Bytes.{recordLength, encoded}
 use Rattle.record_read.specs.Record.{stateOf}
 use Rattle.panel_c.specs.Face.{wrongLength, recordAfter, starting, startingC, startC, fed, feeding, feedingC, feedC, calling, callingC, holdC, releaseC, moved, refreshing, refreshingC, refreshC}

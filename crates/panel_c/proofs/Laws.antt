@@ -10,7 +10,7 @@ use Rattle.paper.specs.declared.Answer.{Answer}
 use Rattle.paper.specs.declared.Refusal.{Refusal}
 use Rattle.paper.specs.declared.Refusal.the-variants.{Accepted, MemoryLength, FontLength, GlassLength, NoSuchWindow, UndefinedWindow, HeldAlready, NotHeld, BrokenState}
 use Rattle.paper.specs.declared.State.{State}
-use Rattle.paper.specs.Panel.{panel, fontLength}
+use Rattle.paper.specs.Panel.{panel, fontLength, memoryLength, glassLength}
 use Rattle.paper.specs.Numbers.{refusalNumber, outcomeNumber}
 use Rattle.paper.specs.Bounds.{accepted}
 use Rattle.paper.specs.Calls.{isAccepted, startCall, Feeding, fedNothing, feedRefusal, feedCall, holdRefusal, holdCall, releaseRefusal, releaseCall, Refreshing, refreshRefusal, refreshCall}
@@ -33,10 +33,10 @@ module _ (l : List ℕ) (h : length l ≡ recordLength) (none : NoState l) where
   never : accepted panel (stateOf l) ≡ false
   never = other-bytes panel l none
 
-  pub feed-8 : (m font piece : List ℕ) → length m ≡ 1024 → length font ≡ fontLength
+  pub feed-8 : (m font piece : List ℕ) → length m ≡ memoryLength panel → length font ≡ fontLength panel
       → feedC l m font piece ≡ feeding (fed 8 9 0 0) l m
   unfolding feedC feedCall feedRefusal isAccepted refusalNumber outcomeNumber recordAfter panel
-  feed-8 m font piece e f = rw (eq-eqb (length l) recordLength h, eq-eqb (length m) 1024 e, eq-eqb (length font) fontLength f, never)
+  feed-8 m font piece e f = rw (eq-eqb (length l) recordLength h, eq-eqb (length m) (memoryLength panel) e, eq-eqb (length font) (fontLength panel) f, never)
 
   pub hold-8 : (k : ℕ) → holdC l k ≡ calling 8 l
   unfolding holdC holdCall holdRefusal isAccepted refusalNumber recordAfter
@@ -46,9 +46,9 @@ module _ (l : List ℕ) (h : length l ≡ recordLength) (none : NoState l) where
   unfolding releaseC releaseCall releaseRefusal isAccepted refusalNumber recordAfter
   release-8 = rw (eq-eqb (length l) recordLength h, never)
 
-  pub refresh-8 : (m glass : List ℕ) → length m ≡ 1024 → length glass ≡ 224 → refreshC l m glass ≡ refreshing (moved 8 0) l glass
+  pub refresh-8 : (m glass : List ℕ) → length m ≡ memoryLength panel → length glass ≡ glassLength panel → refreshC l m glass ≡ refreshing (moved 8 0) l glass
   unfolding refreshC refreshCall refreshRefusal isAccepted refusalNumber recordAfter panel
-  refresh-8 m glass e f = rw (eq-eqb (length l) recordLength h, eq-eqb (length m) 1024 e, eq-eqb (length glass) 224 f, never)
+  refresh-8 m glass e f = rw (eq-eqb (length l) recordLength h, eq-eqb (length m) (memoryLength panel) e, eq-eqb (length glass) (glassLength panel) f, never)
 
 -- ---- a refused call leaves the state
 

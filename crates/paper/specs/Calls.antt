@@ -5,7 +5,7 @@ use mathlib.Core.Bool.{Bool, true, false, cond, not}
 use mathlib.Core.List.{List, [], _∷_}
 use lib.ListN.{length, replicate}
 use lib.Dec.{eqb}
-use Rattle.paper.specs.declared.Geometry.{Geometry}
+use Rattle.paper.specs.declared.Module.{Module}
 use Rattle.paper.specs.declared.Half.the-variants.{Nothing}
 use Rattle.paper.specs.declared.Hold.{Hold}
 use Rattle.paper.specs.declared.Hold.the-variants.{Free, Held}
@@ -45,7 +45,7 @@ isAccepted BrokenState = false
 -- ---- start
 
 -- "Start: 1."
-unfoldable pub startRefusal : Geometry → List ℕ → Refusal
+unfoldable pub startRefusal : Module → List ℕ → Refusal
 startRefusal g m = cond (isNot (memoryLength g) m) MemoryLength Accepted
 
 pub record Starting : Type 0 where
@@ -56,11 +56,11 @@ abbrev pub answer : Refusal → State → Answer
 answer r s = record { refusal = r; state = s }
 
 -- "Start does the same [as initialise] and marks all as written."
-abbrev pub started : Geometry → State
+abbrev pub started : Module → State
 started g = withSpans (initialState g) (markAll (initialState g .spans) (eraseStroke g ∷ []))
 
 -- "Start takes no state; refused, it gives the initial state with both spans empty."
-unfoldable pub startCall : Geometry → List ℕ → Starting
+unfoldable pub startCall : Module → List ℕ → Starting
 startCall g m =
     cond (isAccepted (startRefusal g m))
     (record { answer = answer Accepted (started g); mem = applyAll g m (eraseStroke g ∷ []) })
@@ -69,10 +69,10 @@ startCall g m =
 -- ---- feed
 
 -- "Feed: 1, 2, 8."
-unfoldable pub feedRefusal : Geometry → List ℕ → State → List ℕ → Refusal
+unfoldable pub feedRefusal : Module → List ℕ → State → List ℕ → Refusal
 feedRefusal g font s m =
     cond (isNot (memoryLength g) m) MemoryLength
-    (cond (isNot fontLength font) FontLength (cond (not (accepted g s)) BrokenState Accepted))
+    (cond (isNot (fontLength g) font) FontLength (cond (not (accepted g s)) BrokenState Accepted))
 
 pub record Feeding : Type 0 where
   pub answer : Fed
@@ -87,7 +87,7 @@ abbrev pub settled : Meaning → State
 settled t = withSpans (t .state) (markAll (t .state .spans) (t .strokes))
 
 -- one byte taken: its strokes move the memory and grow the spans, its outcome is counted
-abbrev pub counted : Geometry → Feeding → Meaning → Feeding
+abbrev pub counted : Module → Feeding → Meaning → Feeding
 counted g f t =
     feeding (f .answer .refusal) (settled t)
     (f .answer .carried + carriedBy (t .outcome))
@@ -95,11 +95,11 @@ counted g f t =
     (t .outcome)
     (applyAll g (f .mem) (t .strokes))
 
-unfoldable pub next : Geometry → List ℕ → Feeding → ℕ → Feeding
+unfoldable pub next : Module → List ℕ → Feeding → ℕ → Feeding
 next g font f b = counted g f (byteMeans g font (f .answer .state) b)
 
 -- "A feed takes the whole piece"
-abbrev pub run : Geometry → List ℕ → Feeding → List ℕ → Feeding
+abbrev pub run : Module → List ℕ → Feeding → List ℕ → Feeding
 run g font f [] = f
 run g font f (b ∷ bs) = run g font (next g font f b) bs
 
@@ -107,7 +107,7 @@ run g font f (b ∷ bs) = run g font (next g font f b) bs
 abbrev pub fedNothing : Refusal → State → List ℕ → Feeding
 fedNothing r s m = feeding r s 0 0 Unfinished m
 
-unfoldable pub feedCall : Geometry → List ℕ → State → List ℕ → List ℕ → Feeding
+unfoldable pub feedCall : Module → List ℕ → State → List ℕ → List ℕ → Feeding
 feedCall g font s m piece =
     cond (isAccepted (feedRefusal g font s m)) (run g font (fedNothing Accepted s m) piece)
     (fedNothing (feedRefusal g font s m) s m)
@@ -115,7 +115,7 @@ feedCall g font s m piece =
 -- ---- hold and release
 
 -- "Hold: 8, 6, 4, 5."
-unfoldable pub holdRefusal : Geometry → State → ℕ → Refusal
+unfoldable pub holdRefusal : Module → State → ℕ → Refusal
 holdRefusal g s k =
     cond (not (accepted g s)) BrokenState
     (cond (isHeld (s .hold)) HeldAlready
@@ -126,12 +126,12 @@ holdRefusal g s k =
 unfoldable pub heldBy : State → ℕ → State
 heldBy s k = withHold (withSelected (withHalf s Nothing) k) (Held k (s .selected) (s .settings))
 
-unfoldable pub holdCall : Geometry → State → ℕ → Answer
+unfoldable pub holdCall : Module → State → ℕ → Answer
 holdCall g s k =
     cond (isAccepted (holdRefusal g s k)) (answer Accepted (heldBy s k)) (answer (holdRefusal g s k) s)
 
 -- "Release: 8, 7."
-unfoldable pub releaseRefusal : Geometry → State → Refusal
+unfoldable pub releaseRefusal : Module → State → Refusal
 releaseRefusal g s = cond (not (accepted g s)) BrokenState (cond (not (isHeld (s .hold))) NotHeld Accepted)
 
 -- "Release drops a half-read command and puts the saved settings and selection back; window k keeps its cursor and mode."
@@ -142,14 +142,14 @@ putBack s (Held k back v) = withHold (withSelected (withSettings (withHalf s Not
 unfoldable pub released : State → State
 released s = putBack s (s .hold)
 
-unfoldable pub releaseCall : Geometry → State → Answer
+unfoldable pub releaseCall : Module → State → Answer
 releaseCall g s =
     cond (isAccepted (releaseRefusal g s)) (answer Accepted (released s)) (answer (releaseRefusal g s) s)
 
 -- ---- refresh
 
 -- "Refresh: 1, 3, 8."
-unfoldable pub refreshRefusal : Geometry → State → List ℕ → List ℕ → Refusal
+unfoldable pub refreshRefusal : Module → State → List ℕ → List ℕ → Refusal
 refreshRefusal g s m glass =
     cond (isNot (memoryLength g) m) MemoryLength
     (cond (isNot (glassLength g) glass) GlassLength (cond (not (accepted g s)) BrokenState Accepted))
@@ -162,12 +162,12 @@ abbrev pub refreshing : Refusal → State → ℕ → List ℕ → Refreshing
 refreshing r s n glass = record { answer = record { refusal = r; state = s; moved = n }; glass = glass }
 
 -- "empties both spans"
-unfoldable pub emptied : Geometry → State → State
+unfoldable pub emptied : Module → State → State
 emptied g s = withSpans s (replicate (g .rows) noSpan)
 
 -- "Refresh copies each span's visible columns, changes no other glass byte, empties both spans, and reports the number of bytes
 -- moved, which is the sum of the visible span lengths"
-unfoldable pub refreshCall : Geometry → State → List ℕ → List ℕ → Refreshing
+unfoldable pub refreshCall : Module → State → List ℕ → List ℕ → Refreshing
 refreshCall g s m glass =
     cond (isAccepted (refreshRefusal g s m glass))
     (refreshing Accepted (emptied g s) (shownAll g (s .spans)) (refreshed g m (s .spans) glass))

@@ -4,7 +4,7 @@ use Prim.Native.Nat.{ℕ, _+_}
 use mathlib.Core.Bool.{Bool, true, false, cond, not, _&&_}
 use mathlib.Core.List.{List, [], _∷_}
 use lib.Dec.{ltb}
-use Rattle.paper.specs.declared.Geometry.{Geometry}
+use Rattle.paper.specs.declared.Module.{Module}
 use Rattle.paper.specs.declared.Style.{Style}
 use Rattle.paper.specs.declared.View.{View}
 use Rattle.paper.specs.declared.Key.{Key}
@@ -65,15 +65,15 @@ isWrite Width = false
 isWrite Write = true
 
 -- the cell's width c and height L
-abbrev pub widthNow : State → ℕ
-widthNow s = cellWidth (s .settings .width) (s .settings .style)
+abbrev pub widthNow : Module → State → ℕ
+widthNow g s = cellWidth g (s .settings .width) (s .settings .style)
 
 abbrev pub heightNow : State → ℕ
 heightNow s = cellHeight (s .settings .style)
 
 -- the character cell exceeds the range
-abbrev pub exceeds : Geometry → State → Bool
-exceeds g s = tooLarge (viewOf g s) (widthNow s) (heightNow s)
+abbrev pub exceeds : Module → State → Bool
+exceeds g s = tooLarge (viewOf g s) (widthNow g s) (heightNow s)
 
 -- What a command is asked before it is carried out, each under its number's words.
 pub record Asked : Type 0 where
@@ -94,7 +94,7 @@ asked n14 n15 n11 n17 n16 =
 
 -- A row for each command: 14, 15, 11, 17, 16. What a row asks of the state is handed in: whether a place lies inside the current
 -- window ("Cursor set ..; outside the window it is answered 11"), whether a window may be selected, whether the cell exceeds the range.
-unfoldable pub asks : Geometry → (ℕ → ℕ → Bool) → (ℕ → Bool) → Bool → Command → Asked
+unfoldable pub asks : Module → (ℕ → ℕ → Bool) → (ℕ → Bool) → Bool → Command → Asked
 asks g inside selects large (Character b) = asked false false false false large
 asks g inside selects large Back = asked false false false false large
 asks g inside selects large Tab = asked false false false false large
@@ -105,14 +105,14 @@ asks g inside selects large Return = asked false false false false false
 asks g inside selects large (Select k) = asked false true (ltb 4 k) (not (selects k)) false
 asks g inside selects large Initialise = asked false true false false false
 asks g inside selects large (Mode n) = asked false false false false false
-asks g inside selects large (Set key n) = asked (notCarriedValue key n) (isWrite key) (not (inDomain key n)) false false
+asks g inside selects large (Set key n) = asked (notCarriedValue key n) (isWrite key) (not (inDomain g key n)) false false
 asks g inside selects large (Enlarge x y) = asked false false (not (inEnlargement x y)) false false
 asks g inside selects large (CursorSet x y) = asked false false (not (inside x y)) false false
 asks g inside selects large (Define a left top width height) = asked false true (not (fits g left top width height)) false false
 asks g inside selects large (Cancel a) = asked false true false false false
 asks g inside selects large Uncarried = asked true false false false false
 
-abbrev pub askedOf : Geometry → State → Command → Asked
+abbrev pub askedOf : Module → State → Command → Asked
 askedOf g s c = asks g (insideWindow g s) (selectable (s .windows)) (exceeds g s) c
 
 -- ---- what a command that is carried out does
@@ -125,11 +125,11 @@ moves s t = means (withView s (t .view)) Carried (t .strokes)
 abbrev pub becomes : State → Meaning
 becomes s = means s Carried []
 
-unfoldable pub carriedOut : Geometry → List ℕ → State → Command → Meaning
+unfoldable pub carriedOut : Module → List ℕ → State → Command → Meaning
 carriedOut g font s (Character b) =
     moves s (characterOf g font (s .settings .width) (s .settings .style) b (viewOf g s))
-carriedOut g font s Back = becomes (withView s (backOf (viewOf g s) (widthNow s) (heightNow s)))
-carriedOut g font s Tab = moves s (htOf g (viewOf g s) (widthNow s) (heightNow s))
+carriedOut g font s Back = becomes (withView s (backOf (viewOf g s) (widthNow g s) (heightNow s)))
+carriedOut g font s Tab = moves s (htOf g (viewOf g s) (widthNow g s) (heightNow s))
 carriedOut g font s LineFeed = moves s (lineFeedOf g (viewOf g s) (heightNow s))
 carriedOut g font s Home = becomes (withView s (homeOf (viewOf g s)))
 carriedOut g font s Clear = moves s (clearOf (viewOf g s))
@@ -151,7 +151,7 @@ abbrev pub answers : State → Outcome → Meaning
 answers s o = means s o []
 
 -- "Order for one command: .. then 14, 15, 11, 17, 16."
-unfoldable pub commandOf : Geometry → List ℕ → State → Command → Meaning
+unfoldable pub commandOf : Module → List ℕ → State → Command → Meaning
 commandOf g font s c =
     let a = askedOf g s c in
     cond (a .notCarried) (answers s NotCarried)
@@ -169,7 +169,7 @@ imageStrokes v y column row b =
     (imageStroke y column row b v ∷ []) []
 
 -- "12 and 13 while reading"; "Each byte finishes at most one [command]."
-unfoldable pub takeOf : Geometry → List ℕ → State → Reading → Meaning
+unfoldable pub takeOf : Module → List ℕ → State → Reading → Meaning
 takeOf g font s (More p) = means (withHalf s p) Unfinished []
 takeOf g font s (Whole c) = commandOf g font (withHalf s Nothing) c
 takeOf g font s (ImageByte column row b next) = means (withHalf s next) Unfinished (imageStrokes (viewOf g s) (s .settings .style) column row b)
@@ -177,5 +177,5 @@ takeOf g font s (ImageEnd column row b) = means (withHalf s Nothing) Carried (im
 takeOf g font s Cancels = answers (withHalf s Nothing) Cancelled
 takeOf g font s UnknownCode = answers (withHalf s Nothing) Unknown
 
-unfoldable pub byteMeans : Geometry → List ℕ → State → ℕ → Meaning
+unfoldable pub byteMeans : Module → List ℕ → State → ℕ → Meaning
 byteMeans g font s b = takeOf g font s (readOf g (s .half) b)

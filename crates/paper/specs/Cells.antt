@@ -4,7 +4,7 @@ use mathlib.Core.Bool.{Bool, false, cond, not, _&&_, _||_, xor}
 use mathlib.Core.List.{List}
 use lib.ListN.{getD}
 use lib.Dec.{leb, ltb, eqb}
-use Rattle.paper.specs.declared.Geometry.{Geometry}
+use Rattle.paper.specs.declared.Module.{Module}
 use Rattle.paper.specs.declared.Rect.{Rect}
 use Rattle.paper.specs.declared.Style.{Style}
 use Rattle.paper.specs.declared.View.{View}
@@ -18,16 +18,19 @@ abbrev pub Dots : Type 0
 Dots = ℕ → ℕ → Bool
 
 -- "w = 0 puts one blank column right; w = 1 one on each side": w of 0 or 1 is also the number of blank columns on the left
-abbrev pub withBlanks : ℕ → Dots → Dots
-withBlanks w d k i = among w 5 k && d (k - w) i
+abbrev pub blanksLeft : Module → ℕ → ℕ
+blanksLeft g w = cond (g .framed) w 0
+
+abbrev pub withBlanks : Module → ℕ → Dots → Dots
+withBlanks g w d k i = among (blanksLeft g w) (g .glyph) k && d (k - blanksLeft g w) i
 
 -- "If the cursor's row in memory is 0, the glyph has its 7 dots on top and a blank dot below; on row 1 the blank is above"
-abbrev pub placed : ℕ → Dots → Dots
-placed row d k i = cond (eqb row 0) (ltb i 7 && d k i) (leb 1 i && d k (i - 1))
+abbrev pub placed : Module → ℕ → Dots → Dots
+placed g row d k i = cond (g .framed && not (eqb row 0)) (leb 1 i && d k (i - 1)) (d k i)
 
--- the cell of a code before enlargement, 6 or 7 columns of 8 dots, the cursor on a row of memory
-unfoldable pub cellDot : List ℕ → ℕ → ℕ → ℕ → Dots
-cellDot font code w row = withBlanks w (placed row (glyphDot font code))
+-- the cell of a code before enlargement, its columns of 8 dots, the cursor on a row of memory
+unfoldable pub cellDot : Module → List ℕ → ℕ → ℕ → ℕ → Dots
+cellDot g font code w row = withBlanks g w (placed g row (glyphDot g font code))
 
 -- "draw an all-off cell"
 abbrev pub allOff : Dots
@@ -52,9 +55,13 @@ penned y d old = byteOf (λ i. mixedDot y (reversedDot y (d i)) (dot old i))
 
 -- ---- sizes
 
+-- the blank columns that a frame adds: the right one, and with w = 1 one on the left
+abbrev pub blankColumns : Module → ℕ → ℕ
+blankColumns g w = cond (g .framed) (cond (eqb w 0) 1 2) 0
+
 -- "Cell width c is 6 (w = 0) or 7 (w = 1) times x enlargement"
-unfoldable pub cellWidth : ℕ → Style → ℕ
-cellWidth w y = cond (eqb w 0) 6 7 * y .across
+unfoldable pub cellWidth : Module → ℕ → Style → ℕ
+cellWidth g w y = (g .glyph + blankColumns g w) * y .across
 
 -- "cell height is L rows, L the y enlargement"
 abbrev pub cellHeight : Style → ℕ
@@ -67,7 +74,7 @@ tooLarge v c l = ltb (v .width) c || ltb (v .height) l
 -- ---- strokes
 
 -- all of memory
-abbrev pub memoryRect : Geometry → Rect
+abbrev pub memoryRect : Module → Rect
 memoryRect g = rectAt 0 0 (g .columns) (g .rows)
 
 -- the range of a view
@@ -92,15 +99,15 @@ cellStroke rule y c d v =
     }
 
 -- the cell of a code; the blank dot is "by the cursor's row in memory"
-abbrev pub drawStroke : List ℕ → ℕ → Style → ℕ → View → Stroke
-drawStroke font w y code v = cellStroke draw y (cellWidth w y) (cellDot font code w (v .top + v .y)) v
+abbrev pub drawStroke : Module → List ℕ → ℕ → Style → ℕ → View → Stroke
+drawStroke g font w y code v = cellStroke draw y (cellWidth g w y) (cellDot g font code w (v .top + v .y)) v
 
 -- the all-off cell of a wrap, "reversed and mixed as any"
-abbrev pub blankStroke : ℕ → Style → View → Stroke
-blankStroke w y v = cellStroke wrapBlank y (cellWidth w y) allOff v
+abbrev pub blankStroke : Module → ℕ → Style → View → Stroke
+blankStroke g w y v = cellStroke wrapBlank y (cellWidth g w y) allOff v
 
 -- "scroll the range up L rows, zero the lowest L"
-abbrev pub upStroke : Geometry → View → ℕ → Stroke
+abbrev pub upStroke : Module → View → ℕ → Stroke
 upStroke g v l =
     record {
       rule = scroll;
@@ -109,7 +116,7 @@ upStroke g v l =
     }
 
 -- "rows y to y + L − 1 inside the range move left by n columns, zeros enter (all zeros if that is W or more)"
-abbrev pub leftStroke : Geometry → View → ℕ → ℕ → Stroke
+abbrev pub leftStroke : Module → View → ℕ → ℕ → Stroke
 leftStroke g v l n =
     record {
       rule = scroll;
@@ -122,7 +129,7 @@ abbrev pub clearStroke : View → Stroke
 clearStroke v = record { rule = clear; rect = rangeOf v; byte = λ m j r b. 0 }
 
 -- "Initialise zeroes the memory"
-abbrev pub eraseStroke : Geometry → Stroke
+abbrev pub eraseStroke : Module → Stroke
 eraseStroke g = record { rule = initialise; rect = memoryRect g; byte = λ m j r b. 0 }
 
 -- an image's byte at its column and row, from the cursor: "Each byte passes reverse and mixing and is stored"

@@ -4,7 +4,7 @@ use Prim.Native.Nat.{ℕ, _+_, _*_, _-_}
 use mathlib.Core.Bool.{Bool, cond, _&&_, not}
 use mathlib.Core.List.{List, [], _∷_, _++_}
 use lib.Dec.{leb, eqb}
-use Rattle.paper.specs.declared.Geometry.{Geometry}
+use Rattle.paper.specs.declared.Module.{Module}
 use Rattle.paper.specs.declared.Style.{Style}
 use Rattle.paper.specs.declared.View.{View}
 use Rattle.paper.specs.Strokes.{Stroke}
@@ -51,16 +51,16 @@ unfoldable pub nextLine : View → ℕ → View
 nextLine v l = cond (roomBelow v l) (to v 0 (v .y + l)) (to v 0 0)
 
 -- "MD2: same with room; else scroll the range up L rows, zero the lowest L, cursor (0, H − L)."
-unfoldable pub nextLineUp : Geometry → View → ℕ → Moved
+unfoldable pub nextLineUp : Module → View → ℕ → Moved
 nextLineUp g v l =
     cond (roomBelow v l) (only (to v 0 (v .y + l))) (writing (upStroke g v l) (to v 0 (v .height - l)))
 
 -- "MD3: rows y to y + L − 1 inside the range move left by x + 2c − W columns, x becomes W − c."
-unfoldable pub pushLeft : Geometry → View → ℕ → ℕ → Moved
+unfoldable pub pushLeft : Module → View → ℕ → ℕ → Moved
 pushLeft g v c l = writing (leftStroke g v l (v .x + 2 * c - v .width)) (to v (v .width - c) (v .y))
 
 -- "HT: if x + 2c ≤ W, x grows by c. Else .."
-unfoldable pub htOf : Geometry → View → ℕ → ℕ → Moved
+unfoldable pub htOf : Module → View → ℕ → ℕ → Moved
 htOf g v c l =
     cond (leb (v .x + 2 * c) (v .width)) (only (to v (v .x + c) (v .y)))
     (cond (eqb (v .mode) 1) (only (nextLine v l)) (cond (eqb (v .mode) 2) (nextLineUp g v l) (pushLeft g v c l)))
@@ -68,19 +68,19 @@ htOf g v c l =
 -- ---- a character
 
 -- "draw, HT"
-unfoldable pub drawTab : Geometry → List ℕ → ℕ → Style → ℕ → View → Moved
+unfoldable pub drawTab : Module → List ℕ → ℕ → Style → ℕ → View → Moved
 drawTab g font w y code v =
-    andThen (writing (drawStroke font w y code v) v) (λ q. htOf g q (cellWidth w y) (cellHeight y))
+    andThen (writing (drawStroke g font w y code v) v) (λ q. htOf g q (cellWidth g w y) (cellHeight y))
 
 -- "draw an all-off cell, HT"
-unfoldable pub blankTab : Geometry → ℕ → Style → View → Moved
-blankTab g w y v = andThen (writing (blankStroke w y v) v) (λ q. htOf g q (cellWidth w y) (cellHeight y))
+unfoldable pub blankTab : Module → ℕ → Style → View → Moved
+blankTab g w y v = andThen (writing (blankStroke g w y v) v) (λ q. htOf g q (cellWidth g w y) (cellHeight y))
 
 -- "Character: if x + c ≤ W draw, HT. Else MD1 and MD2: draw an all-off cell, HT, draw, HT. MD3: HT, draw, HT."
-unfoldable pub characterOf : Geometry → List ℕ → ℕ → Style → ℕ → View → Moved
+unfoldable pub characterOf : Module → List ℕ → ℕ → Style → ℕ → View → Moved
 characterOf g font w y code v =
-    cond (leb (v .x + cellWidth w y) (v .width)) (drawTab g font w y code v)
-    (cond (eqb (v .mode) 3) (andThen (htOf g v (cellWidth w y) (cellHeight y)) (drawTab g font w y code))
+    cond (leb (v .x + cellWidth g w y) (v .width)) (drawTab g font w y code v)
+    (cond (eqb (v .mode) 3) (andThen (htOf g v (cellWidth g w y) (cellHeight y)) (drawTab g font w y code))
     (andThen (blankTab g w y v) (drawTab g font w y code)))
 
 -- ---- the other moves
@@ -91,18 +91,18 @@ backOf v c l =
     cond (leb c (v .x)) (to v (v .x - c) (v .y))
     (cond (not (eqb (v .mode) 3) && leb l (v .y)) (to v (v .width - c) (v .y - l)) v)
 
--- "LF: MD1: if y + 2L ≤ H, L rows down; else top row, same column."
-unfoldable pub lineDown : View → ℕ → View
-lineDown v l = cond (roomBelow v l) (to v (v .x) (v .y + l)) (to v (v .x) 0)
+-- "LF: MD1: if y + 2L ≤ H, L rows down; else top row, same column" where the module keeps it
+unfoldable pub lineDown : Module → View → ℕ → View
+lineDown g v l = cond (roomBelow v l) (to v (v .x) (v .y + l)) (to v (cond (g .keeps) (v .x) 0) 0)
 
 -- "MD2: with room the same; else scroll up L rows, zero the lowest L, no move."
-unfoldable pub lineDownUp : Geometry → View → ℕ → Moved
+unfoldable pub lineDownUp : Module → View → ℕ → Moved
 lineDownUp g v l = cond (roomBelow v l) (only (to v (v .x) (v .y + l))) (writing (upStroke g v l) v)
 
 -- "MD3: nothing."
-unfoldable pub lineFeedOf : Geometry → View → ℕ → Moved
+unfoldable pub lineFeedOf : Module → View → ℕ → Moved
 lineFeedOf g v l =
-    cond (eqb (v .mode) 1) (only (lineDown v l)) (cond (eqb (v .mode) 2) (lineDownUp g v l) (only v))
+    cond (eqb (v .mode) 1) (only (lineDown g v l)) (cond (eqb (v .mode) 2) (lineDownUp g v l) (only v))
 
 -- "HOM (0,0)."
 abbrev pub homeOf : View → View

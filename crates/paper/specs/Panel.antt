@@ -1,36 +1,54 @@
 -- Document 01, "The panel and its memory": sizes, addresses, the dots of a byte, the font's glyphs.
--- Every rule is over a geometry; `panel` is the 112 by 16 module's. Assumes nothing.
+-- Every rule is over a module; `panel` is the 112 by 16 one. Assumes nothing.
 use Prim.Native.Nat.{ℕ, suc, _+_, _*_, _-_, _/_, _%_, _^_}
-use mathlib.Core.Bool.{Bool, true, false, cond}
+use mathlib.Core.Bool.{Bool, true, false, not, _&&_, _||_}
 use mathlib.Core.List.{List, [], _∷_}
 use lib.ListN.{getD}
 use lib.Dec.{ltb, eqb}
-use Rattle.paper.specs.declared.Geometry.{Geometry}
+use Rattle.paper.specs.declared.Module.{Module}
 
--- "Display memory is 512 by 16 dots. Columns 0 to 111 are visible."
-unfoldable pub panel : Geometry
-panel = record { columns = 512; rows = 2; visible = 112 }
+-- The 112 by 16 module. "Display memory is 512 by 16 dots. Columns 0 to 111 are visible." "5 columns for each code", "upper 7 bits
+-- used" and blanks by w and by the row. Brightness "58h n (1 to 8)", initially 8. "74h n (0 to 5, 16 to 19)". "LF: MD1: .. else top
+-- row, same column". All codes that document 01 lists are known.
+unfoldable pub panel : Module
+panel =
+    record {
+      columns = 512;
+      rows = 2;
+      visible = 112;
+      glyph = 5;
+      framed = true;
+      dimmest = 1;
+      brightest = 8;
+      finer = false;
+      brightness = 8;
+      tables = false;
+      keeps = true;
+      shortcuts = true;
+      downloads = true;
+      widths = true;
+    }
 
 -- "1,024 lent bytes"
-abbrev pub memoryLength : Geometry → ℕ
+abbrev pub memoryLength : Module → ℕ
 memoryLength g = g .rows * g .columns
 
 -- "The glass copy is 224 lent bytes, addressed in the same way."
-abbrev pub glassLength : Geometry → ℕ
+abbrev pub glassLength : Module → ℕ
 glassLength g = g .rows * g .visible
 
 -- "The font is 1,120 lent bytes: 5 columns for each code 20h to FFh"
-abbrev pub fontLength : ℕ
-fontLength = 1120
+abbrev pub fontLength : Module → ℕ
+fontLength g = g .glyph * (0x100 - 0x20)
 
 -- "Column x, row y: the byte at address 2x + y"
-abbrev pub address : Geometry → ℕ → ℕ → ℕ
+abbrev pub address : Module → ℕ → ℕ → ℕ
 address g x y = g .rows * x + y
 
-abbrev pub columnOf : Geometry → ℕ → ℕ
+abbrev pub columnOf : Module → ℕ → ℕ
 columnOf g a = a / g .rows
 
-abbrev pub rowOf : Geometry → ℕ → ℕ
+abbrev pub rowOf : Module → ℕ → ℕ
 rowOf g a = a % g .rows
 
 -- "holds 8 dots, bit 7 on top": whether dot i of a byte, counted from the top, is lit
@@ -46,12 +64,13 @@ unfoldable pub byteOf : (ℕ → Bool) → ℕ
 byteOf d =
     lit 128 (d 0) + lit 64 (d 1) + lit 32 (d 2) + lit 16 (d 3) + lit 8 (d 4) + lit 4 (d 5) + lit 2 (d 6) + lit 1 (d 7)
 
--- "5 columns for each code 20h to FFh, leftmost first, upper 7 bits used": dot i of column k of a code's glyph
-abbrev pub glyphByte : List ℕ → ℕ → ℕ → ℕ
-glyphByte font code k = getD font (5 * (code - 0x20) + k) 0
+-- "5 columns for each code 20h to FFh, leftmost first"
+abbrev pub glyphByte : Module → List ℕ → ℕ → ℕ → ℕ
+glyphByte g font code k = getD font (g .glyph * (code - 0x20) + k) 0
 
-unfoldable pub glyphDot : List ℕ → ℕ → ℕ → ℕ → Bool
-glyphDot font code k i = cond (ltb i 7) (dot (glyphByte font code k) i) false
+-- "upper 7 bits used" where the glyph is framed, else all: dot i of column k of a code's glyph
+unfoldable pub glyphDot : Module → List ℕ → ℕ → ℕ → ℕ → Bool
+glyphDot g font code k i = (not (g .framed) || ltb i 7) && dot (glyphByte g font code k) i
 
 -- each byte of a memory or a glass changed by its address, counted from i
 abbrev pub eachFrom : (ℕ → ℕ → ℕ) → ℕ → List ℕ → List ℕ

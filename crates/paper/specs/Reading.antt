@@ -1,9 +1,10 @@
 -- Document 01, "How bytes are read": what a byte gives to a half-read command. Nothing of state or memory is in it.
 -- Assumes nothing.
 use Prim.Native.Nat.{ℕ, _+_, _*_, _-_}
-use mathlib.Core.Bool.{Bool, cond, _&&_, _||_}
+use mathlib.Core.Bool.{Bool, true, cond, _&&_, _||_}
 use lib.Dec.{leb, ltb, eqb}
-use Rattle.paper.specs.declared.Geometry.{Geometry}
+use Rattle.paper.specs.declared.Module.{Module}
+use Rattle.paper.specs.declared.Key.{Key}
 use Rattle.paper.specs.declared.Key.the-variants.{Charset, Codes, Caret, Brightness, Reverse, Speed, Mixing, Width, Write}
 use Rattle.paper.specs.declared.Word.{Word}
 use Rattle.paper.specs.declared.Word.the-variants.{CursorX, CursorY, WindowLeft, WindowTop, WindowWidth, WindowHeight, ImageWidth, ImageHeight}
@@ -21,6 +22,10 @@ between lo hi n = leb lo n && leb n hi
 abbrev pub moreIf : Bool → Half → Reading
 moreIf ok p = cond ok (More p) Cancels
 
+-- a code that not every module knows
+abbrev pub onlyIf : Bool → Reading → Reading
+onlyIf known r = cond known r UnknownCode
+
 -- "08h to 0Dh are BS, HT, LF, HOM, CLR, CR"
 unfoldable pub readMove : ℕ → Reading
 readMove b =
@@ -32,23 +37,23 @@ readMove b =
 
 -- "Bytes 20h to FFh are characters; 08h to 0Dh are BS, HT, LF, HOM, CLR, CR; 10h to 14h select window 0 to 4; 1Bh and 1Fh open
 -- commands; every other byte below 20h is answered 13."
-unfoldable pub readFirst : ℕ → Reading
-readFirst b =
+unfoldable pub readFirst : Module → ℕ → Reading
+readFirst g b =
     cond (leb 0x20 b) (Whole (Character b))
     (cond (between 0x08 0x0D b) (readMove b)
-    (cond (between 0x10 0x14 b) (Whole (Select (b - 0x10)))
+    (cond (between 0x10 0x14 b) (onlyIf (g .shortcuts) (Whole (Select (b - 0x10))))
     (cond (eqb b 0x1B) (More Escape)
     (cond (eqb b 0x1F) (More Unit) UnknownCode))))
 
 -- "1Bh: 40h initialise; 52h n and 74h n; 25h n, 3Fh a c: answered 14; 26h a c1 c2 .."
-unfoldable pub readEscape : ℕ → Reading
-readEscape b =
+unfoldable pub readEscape : Module → ℕ → Reading
+readEscape g b =
     cond (eqb b 0x40) (Whole Initialise)
     (cond (eqb b 0x52) (More (Value Charset))
     (cond (eqb b 0x74) (More (Value Codes))
-    (cond (eqb b 0x25) (More (Rest 1))
-    (cond (eqb b 0x3F) (More (Rest 2))
-    (cond (eqb b 0x26) (More DownloadA) UnknownCode)))))
+    (cond (eqb b 0x25) (onlyIf (g .downloads) (More (Rest 1)))
+    (cond (eqb b 0x3F) (onlyIf (g .downloads) (More (Rest 2)))
+    (cond (eqb b 0x26) (onlyIf (g .downloads) (More DownloadA)) UnknownCode)))))
 
 -- "1Fh: 01h, 02h, 03h set MD1, MD2, MD3; 24h x16 y16; 43h n; 58h n; 72h n; 73h n; 77h n", and 28h, which opens the groups below
 unfoldable pub readUnit : ℕ → Reading
@@ -83,8 +88,21 @@ unfoldable pub readImages : ℕ → Reading
 readImages b = cond (eqb b 0x11) (More (Low ImageWidth)) UnknownCode
 
 -- "1Fh 28h 67h: 03h w; 40h x y"
-unfoldable pub readCharacters : ℕ → Reading
-readCharacters b = cond (eqb b 0x03) (More (Value Width)) (cond (eqb b 0x40) (More EnlargeX) UnknownCode)
+unfoldable pub readCharacters : Module → ℕ → Reading
+readCharacters g b =
+    cond (eqb b 0x03) (onlyIf (g .widths) (More (Value Width))) (cond (eqb b 0x40) (More EnlargeX) UnknownCode)
+
+-- whether the module knows the command that sets a setting
+unfoldable pub isKnown : Module → Key → Bool
+isKnown g Charset = true
+isKnown g Codes = true
+isKnown g Caret = true
+isKnown g Brightness = true
+isKnown g Reverse = true
+isKnown g Speed = true
+isKnown g Mixing = true
+isKnown g Width = g .widths
+isKnown g Write = true
 
 -- "1Fh 28h 77h: 01h a select; 02h a b ..; 10h a write mode"
 unfoldable pub readWindows : ℕ → Reading
@@ -113,7 +131,7 @@ abbrev pub word16 : ℕ → ℕ → ℕ
 word16 low high = low + 256 * high
 
 -- a 16-bit parameter n that has come whole; "x size 1 to 512, y size 1 to 2": "A bad size cancels when its high byte arrives"
-unfoldable pub readWord : Geometry → Word → ℕ → Reading
+unfoldable pub readWord : Module → Word → ℕ → Reading
 readWord g CursorX n = More (Low (CursorY n))
 readWord g (CursorY x) n = Whole (CursorSet x n)
 readWord g (WindowLeft a) n = More (Low (WindowTop a n))
@@ -131,14 +149,14 @@ readImage width height column row b =
     (ImageEnd column row b))
 
 -- every half-read command
-unfoldable pub readOf : Geometry → Half → ℕ → Reading
-readOf g Nothing b = readFirst b
-readOf g Escape b = readEscape b
+unfoldable pub readOf : Module → Half → ℕ → Reading
+readOf g Nothing b = readFirst g b
+readOf g Escape b = readEscape g b
 readOf g Unit b = readUnit b
 readOf g Group b = readGroup b
 readOf g Actions b = readActions b
 readOf g Images b = readImages b
-readOf g Characters b = readCharacters b
+readOf g Characters b = readCharacters g b
 readOf g Windows b = readWindows b
 readOf g (Value key) b = Whole (Set key b)
 readOf g (Rest left) b = readRest left

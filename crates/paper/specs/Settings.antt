@@ -5,7 +5,7 @@ use mathlib.Core.Bool.{Bool, true, cond, _&&_, _||_}
 use mathlib.Core.List.{List}
 use lib.ListN.{getD, set, replicate}
 use lib.Dec.{leb, ltb, eqb}
-use Rattle.paper.specs.declared.Geometry.{Geometry}
+use Rattle.paper.specs.declared.Module.{Module}
 use Rattle.paper.specs.declared.Style.{Style}
 use Rattle.paper.specs.declared.Settings.{Settings}
 use Rattle.paper.specs.declared.Cursor.{Cursor}
@@ -28,9 +28,18 @@ use Rattle.paper.specs.Strokes.{noSpan}
 unfoldable pub initialStyle : Style
 initialStyle = record { reverse = 0; mixing = 0; across = 1; down = 1 }
 
-unfoldable pub initialSettings : Settings
-initialSettings =
-    record { charset = 0; codes = 0; caret = 0; brightness = 8; speed = 0; width = 1; write = 0; style = initialStyle }
+unfoldable pub initialSettings : Module → Settings
+initialSettings g =
+    record {
+      charset = 0;
+      codes = 0;
+      caret = 0;
+      brightness = g .brightness;
+      speed = 0;
+      width = 1;
+      write = 0;
+      style = initialStyle;
+    }
 
 -- a cursor at the window's top left, in MD1
 unfoldable pub topLeft : Cursor
@@ -41,10 +50,10 @@ abbrev pub noWindow : Window
 noWindow = record { left = 0; top = 0; width = 0; height = 0; cursor = record { x = 0; y = 0; mode = 0 } }
 
 -- "MD1, base window, cursor (0,0), no user window", with both spans empty, nothing held and nothing half read
-unfoldable pub initialState : Geometry → State
+unfoldable pub initialState : Module → State
 initialState g =
     record {
-      settings = initialSettings;
+      settings = initialSettings g;
       windows = replicate 4 noWindow;
       base = topLeft;
       selected = 0;
@@ -85,16 +94,16 @@ withSpans s ps = makeState (s .settings) (s .windows) (s .base) (s .selected) (s
 
 -- "52h n (0 to 13) and 74h n (0 to 5, 16 to 19); 43h n (0, 1); 58h n (1 to 8); 72h n (0, 1); 73h n (0 to 31); 77h n (0 to 3);
 -- 03h w (0 or 1); 10h a (0, 1)"
-unfoldable pub inDomain : Key → ℕ → Bool
-inDomain Charset n = leb n 13
-inDomain Codes n = leb n 5 || between 16 19 n
-inDomain Caret n = leb n 1
-inDomain Brightness n = between 1 8 n
-inDomain Reverse n = leb n 1
-inDomain Speed n = leb n 31
-inDomain Mixing n = leb n 3
-inDomain Width n = leb n 1
-inDomain Write n = leb n 1
+unfoldable pub inDomain : Module → Key → ℕ → Bool
+inDomain g Charset n = leb n 13
+inDomain g Codes n = leb n 5 || (between 16 19 n || (g .tables && eqb n 0xFF))
+inDomain g Caret n = leb n 1
+inDomain g Brightness n = between (g .dimmest) (g .brightest) n || (g .finer && between 0x10 0x18 n)
+inDomain g Reverse n = leb n 1
+inDomain g Speed n = leb n 31
+inDomain g Mixing n = leb n 3
+inDomain g Width n = leb n 1
+inDomain g Write n = leb n 1
 
 -- "x 1 to 4, y 1 to 2"
 unfoldable pub inEnlargement : ℕ → ℕ → Bool
@@ -149,7 +158,7 @@ unfoldable pub selectable : List Window → ℕ → Bool
 selectable ws k = cond (eqb k 0) true (leb k 4 && isDefined (windowAt ws k))
 
 -- "11 unless xS and yS are at least 1, xP + xS at most 512 and yP + yS at most 2"
-unfoldable pub fits : Geometry → ℕ → ℕ → ℕ → ℕ → Bool
+unfoldable pub fits : Module → ℕ → ℕ → ℕ → ℕ → Bool
 fits g left top width height =
     leb 1 width && (leb 1 height && (leb (left + width) (g .columns) && leb (top + height) (g .rows)))
 
@@ -187,7 +196,7 @@ unfoldable pub inMode : State → ℕ → State
 inMode s mode = atCursor s (cursor (cursorOf s .x) (cursorOf s .y) mode)
 
 -- the current window's size, the base's being all of memory
-unfoldable pub insideWindow : Geometry → State → ℕ → ℕ → Bool
+unfoldable pub insideWindow : Module → State → ℕ → ℕ → Bool
 insideWindow g s x y =
     cond (eqb (s .selected) 0) (ltb x (g .columns) && ltb y (g .rows))
     (ltb x (windowAt (s .windows) (s .selected) .width) && ltb y (windowAt (s .windows) (s .selected) .height))
@@ -198,7 +207,7 @@ view left top width height x y mode =
     record { left = left; top = top; width = width; height = height; x = x; y = y; mode = mode }
 
 -- "Base in write mode 1: all. Base in write mode 0: columns 0 to 111 if the cursor is there, else 112 to 511."
-unfoldable pub baseView : Geometry → ℕ → Cursor → View
+unfoldable pub baseView : Module → ℕ → Cursor → View
 baseView g write k =
     cond (eqb write 1) (view 0 0 (g .columns) (g .rows) (k .x) (k .y) (k .mode))
     (cond (ltb (k .x) (g .visible)) (view 0 0 (g .visible) (g .rows) (k .x) (k .y) (k .mode))
@@ -210,7 +219,7 @@ windowView w =
     view (w .left) (w .top) (w .width) (w .height) (w .cursor .x) (w .cursor .y) (w .cursor .mode)
 
 -- "The range is the rectangle in which a command works."
-unfoldable pub viewOf : Geometry → State → View
+unfoldable pub viewOf : Module → State → View
 viewOf g s =
     cond (eqb (s .selected) 0) (baseView g (s .settings .write) (s .base))
     (windowView (windowAt (s .windows) (s .selected)))

@@ -6,7 +6,7 @@ use mathlib.Core.Bool.{Bool, cond, _&&_}
 use mathlib.Core.List.{List, [], _∷_}
 use lib.ListN.{getD}
 use lib.Dec.{leb, ltb, eqb}
-use Rattle.paper.specs.declared.Geometry.{Geometry}
+use Rattle.paper.specs.declared.Module.{Module}
 use Rattle.paper.specs.declared.Rect.{Rect}
 use Rattle.paper.specs.declared.Span.{Span}
 use Rattle.paper.specs.Panel.{columnOf, rowOf, each}
@@ -31,21 +31,21 @@ abbrev pub among : ℕ → ℕ → ℕ → Bool
 among lo n x = leb lo x && ltb x (lo + n)
 
 -- address a lies in the rectangle
-abbrev pub inRect : Geometry → Rect → ℕ → Bool
+abbrev pub inRect : Module → Rect → ℕ → Bool
 inRect g q a = among (q .left) (q .width) (columnOf g a) && among (q .top) (q .height) (rowOf g a)
 
 -- the rectangle's byte b at its column j and row r becomes f j r b; all else stays
-unfoldable pub rectMap : Geometry → Rect → (ℕ → ℕ → ℕ → ℕ) → List ℕ → List ℕ
+unfoldable pub rectMap : Module → Rect → (ℕ → ℕ → ℕ → ℕ) → List ℕ → List ℕ
 rectMap g q f m = each (λ a b. cond (inRect g q a) (f (columnOf g a - q .left) (rowOf g a - q .top) b) b) m
 
-abbrev pub holds : Geometry → Stroke → ℕ → Bool
+abbrev pub holds : Module → Stroke → ℕ → Bool
 holds g s a = inRect g (s .rect) a
 
-abbrev pub applied : Geometry → List ℕ → Stroke → List ℕ
+abbrev pub applied : Module → List ℕ → Stroke → List ℕ
 applied g m s = rectMap g (s .rect) (s .byte m) m
 
 -- one stroke after the other
-abbrev pub applyAll : Geometry → List ℕ → List Stroke → List ℕ
+abbrev pub applyAll : Module → List ℕ → List Stroke → List ℕ
 applyAll g m [] = m
 applyAll g m (s ∷ ss) = applyAll g (applied g m s) ss
 
@@ -92,15 +92,15 @@ markAll ps (s ∷ ss) = markAll (marked ps s) ss
 
 -- "Refresh copies each span's visible columns, changes no other glass byte": the glass has the visible columns only, and its
 -- addresses are the memory's
-unfoldable pub refreshed : Geometry → List ℕ → List Span → List ℕ → List ℕ
+unfoldable pub refreshed : Module → List ℕ → List Span → List ℕ → List ℕ
 refreshed g m ps glass =
     each (λ a b. cond (spanHolds (getD ps (rowOf g a) noSpan) (columnOf g a)) (getD m a 0) b) glass
 
 -- "the visible span lengths"
-unfoldable pub shown : Geometry → Span → ℕ
+unfoldable pub shown : Module → Span → ℕ
 shown g p = min (p .end) (g .visible) - p .first
 
 -- "the sum of the visible span lengths"
-abbrev pub shownAll : Geometry → List Span → ℕ
+abbrev pub shownAll : Module → List Span → ℕ
 shownAll g [] = 0
 shownAll g (p ∷ ps) = shown g p + shownAll g ps

@@ -1,11 +1,29 @@
 // The paper: the types of document 01 and, in specs/, every rule of it as a definition.
 // It holds no other code and uses no other crate; every other crate may use it.
 
-// A panel's memory: its columns, its rows of 8 dots, and how many of its columns are visible.
-pub struct Geometry {
+// A module: every figure and every rule in which panels differ. All else is asked of it.
+pub struct Module {
+    // the memory's columns, its rows of 8 dots, and how many of the columns are visible
     pub columns: usize,
     pub rows: usize,
     pub visible: usize,
+    // the columns of a glyph in the font
+    pub glyph: usize,
+    // whether a glyph is 7 dots high and framed by blanks: columns by the width w, a dot by the row. Else it is its cell, 8 dots high
+    pub framed: bool,
+    // the lowest and the highest brightness, whether 10h to 18h are some too, and the initial one
+    pub dimmest: u8,
+    pub brightest: u8,
+    pub finer: bool,
+    pub brightness: u8,
+    // whether 1Bh 74h takes FFh too
+    pub tables: bool,
+    // whether LF in MD1 keeps its column where there is no room below
+    pub keeps: bool,
+    // the codes that not all panels know: 10h to 14h; 1Bh 25h, 26h and 3Fh; 1Fh 28h 67h 03h
+    pub shortcuts: bool,
+    pub downloads: bool,
+    pub widths: bool,
 }
 
 // How a cell is drawn: reverse 0 or 1, mixing 0 to 3, and the enlargement, 1 to 4 across and 1 to 2 down.

@@ -6,7 +6,8 @@ use mathlib.Core.Logic.{_⊎_, inl, inr}
 use lib.Dec.{leb, eqb}
 use native.Mathlib.Omega.{arith}
 use borrow.Author.Tests.{le-leb, lt-leb, ne-eqb}
-use Rattle.paper.specs.Reading.{between, readMove, readFirst, readUnit}
+use Rattle.paper.specs.declared.Module.{Module}
+use Rattle.paper.specs.Reading.{between, onlyIf, readMove, readFirst, readUnit}
 use Rattle.paper.specs.declared.Command.the-variants.{Character, Select, Mode}
 use Rattle.paper.specs.declared.Reading.the-variants.{Whole, UnknownCode}
 
@@ -24,23 +25,23 @@ outside lo hi n (inr h) = rw (lt-leb n hi h) (and-false (leb lo n))
 
 -- ---- the first byte
 
-pub first-character : (b : ℕ) → 0x20 ≤ b → Whole (Character b) ≡ readFirst b
+pub first-character : (g : Module) (b : ℕ) → 0x20 ≤ b → Whole (Character b) ≡ readFirst g b
 unfolding readFirst
-first-character b h = rw (le-leb 0x20 b h)
+first-character g b h = rw (le-leb 0x20 b h)
 
-pub first-move : (b : ℕ) → 0x08 ≤ b → b ≤ 0x0D → readMove b ≡ readFirst b
+pub first-move : (g : Module) (b : ℕ) → 0x08 ≤ b → b ≤ 0x0D → readMove b ≡ readFirst g b
 unfolding readFirst
-first-move b h k = rw (lt-leb 0x20 b (omega arith), within 0x08 0x0D b h k)
+first-move g b h k = rw (lt-leb 0x20 b (omega arith), within 0x08 0x0D b h k)
 
-pub first-select : (b : ℕ) → 0x10 ≤ b → b ≤ 0x14 → Whole (Select (b - 0x10)) ≡ readFirst b
+pub first-select : (g : Module) (b : ℕ) → 0x10 ≤ b → b ≤ 0x14 → onlyIf (g .shortcuts) (Whole (Select (b - 0x10))) ≡ readFirst g b
 unfolding readFirst
-first-select b h k =
+first-select g b h k =
     rw (lt-leb 0x20 b (omega arith), outside 0x08 0x0D b (inr (omega arith)), within 0x10 0x14 b h k)
 
-pub first-unknown : (b : ℕ) → b < 0x20 → (b < 0x08) ⊎ (0x0D < b) → (b < 0x10) ⊎ (0x14 < b) → (b ≡ 0x1B → ⊥) → (b ≡ 0x1F → ⊥)
-    → UnknownCode ≡ readFirst b
+pub first-unknown : (g : Module) (b : ℕ) → b < 0x20 → (b < 0x08) ⊎ (0x0D < b) → (b < 0x10) ⊎ (0x14 < b) → (b ≡ 0x1B → ⊥) → (b ≡ 0x1F → ⊥)
+    → UnknownCode ≡ readFirst g b
 unfolding readFirst
-first-unknown b h move select escape unit =
+first-unknown g b h move select escape unit =
     rw (lt-leb 0x20 b h, outside 0x08 0x0D b move, outside 0x10 0x14 b select, differs escape, differs unit)
 
 -- ---- the byte after 1Fh

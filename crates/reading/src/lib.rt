@@ -2,11 +2,11 @@
 // There is no state and no memory here: a command that is whole, an image byte with its place, or what is awaited next.
 // It uses the paper and the numbers. `read` is its one call; each function above it decides one place in a command.
 ghost use mathlib.Core.Path.{_≡_};
-ghost use Rattle.paper.specs.Reading.{between, moreIf, readMove, readFirst, readEscape, readUnit, readGroup, readActions, readImages, readCharacters, readWindows, readRest, readGlyphByte, readWindowB, readWord, readImage, readOf};
+ghost use Rattle.paper.specs.Reading.{between, moreIf, onlyIf, readMove, readFirst, readEscape, readUnit, readGroup, readActions, readImages, readCharacters, readWindows, readRest, readGlyphByte, readWindowB, readWord, readImage, readOf};
 use paper::Command;
-use paper::Geometry;
 use paper::Half;
 use paper::Key;
+use paper::Module;
 use paper::Reading;
 use paper::Word;
 
@@ -25,6 +25,16 @@ fn more_if(ok: bool, half: Half) -> Reading
         return Reading::More(half);
     }
     Reading::Cancels
+}
+
+// A code that not every module knows.
+fn only_if(known: bool, r: Reading) -> Reading
+    ensures { λ q. ⌜ q ≡ onlyIf known r ⌝ }
+{
+    if known {
+        return r;
+    }
+    Reading::UnknownCode
 }
 
 // The one byte of a setting is awaited.
@@ -63,13 +73,13 @@ fn read_move(b: u8) -> Reading
 }
 
 // The first byte: characters, moves, window shortcuts, openers; the rest is unknown.
-fn read_first(b: u8) -> Reading
-    ensures { λ r. ⌜ r ≡ readFirst b ⌝ }
+fn read_first(g: Module, b: u8) -> Reading
+    ensures { λ r. ⌜ r ≡ readFirst g b ⌝ }
 {
     match b {
         0x20..=0xFF => Reading::Whole(Command::Character(b)),
         0x08..=0x0D => read_move(b),
-        0x10..=0x14 => Reading::Whole(Command::Select(b - 0x10)),
+        0x10..=0x14 => only_if(g.shortcuts, Reading::Whole(Command::Select(b - 0x10))),
         0x1B => Reading::More(Half::Escape),
         0x1F => Reading::More(Half::Unit),
         _ => Reading::UnknownCode,
@@ -77,16 +87,16 @@ fn read_first(b: u8) -> Reading
 }
 
 // After 1Bh.
-fn read_escape(b: u8) -> Reading
-    ensures { λ r. ⌜ r ≡ readEscape b ⌝ }
+fn read_escape(g: Module, b: u8) -> Reading
+    ensures { λ r. ⌜ r ≡ readEscape g b ⌝ }
 {
     match b {
         0x40 => Reading::Whole(Command::Initialise),
         0x52 => more_value(Key::Charset),
         0x74 => more_value(Key::Codes),
-        0x25 => more_rest(1),
-        0x3F => more_rest(2),
-        0x26 => Reading::More(Half::DownloadA),
+        0x25 => only_if(g.downloads, more_rest(1)),
+        0x3F => only_if(g.downloads, more_rest(2)),
+        0x26 => only_if(g.downloads, Reading::More(Half::DownloadA)),
         _ => Reading::UnknownCode,
     }
 }
@@ -145,11 +155,11 @@ fn read_images(b: u8) -> Reading
 }
 
 // After 1Fh 28h 67h.
-fn read_characters(b: u8) -> Reading
-    ensures { λ r. ⌜ r ≡ readCharacters b ⌝ }
+fn read_characters(g: Module, b: u8) -> Reading
+    ensures { λ r. ⌜ r ≡ readCharacters g b ⌝ }
 {
     match b {
-        0x03 => more_value(Key::Width),
+        0x03 => only_if(g.widths, more_value(Key::Width)),
         0x40 => Reading::More(Half::EnlargeX),
         _ => Reading::UnknownCode,
     }
@@ -208,7 +218,7 @@ fn read_window_b(a: u8, b: u8) -> Reading
 }
 
 // A 16-bit parameter that has come whole. An image's size is tested here, with its high byte.
-fn read_word(g: Geometry, word: Word, n: u16) -> Reading
+fn read_word(g: Module, word: Word, n: u16) -> Reading
     ensures { λ r. ⌜ r ≡ readWord g word n ⌝ }
 {
     match word {
@@ -283,17 +293,17 @@ fn read_image(width: u16, height: u16, column: u16, row: u16, b: u8) -> Reading
 }
 
 // What a byte gives to what is half read.
-pub fn read(g: Geometry, half: Half, b: u8) -> Reading
+pub fn read(g: Module, half: Half, b: u8) -> Reading
     ensures { λ r. ⌜ r ≡ readOf g half b ⌝ }
 {
     match half {
-        Half::Nothing => read_first(b),
-        Half::Escape => read_escape(b),
+        Half::Nothing => read_first(g, b),
+        Half::Escape => read_escape(g, b),
         Half::Unit => read_unit(b),
         Half::Group => read_group(b),
         Half::Actions => read_actions(b),
         Half::Images => read_images(b),
-        Half::Characters => read_characters(b),
+        Half::Characters => read_characters(g, b),
         Half::Windows => read_windows(b),
         Half::Value(key) => Reading::Whole(Command::Set { key, value: b }),
         Half::Rest { left } => read_rest(left),

@@ -7,7 +7,7 @@ use mathlib.Core.Path.{_≡_, refl, sym, _∙_}
 use mathlib.Core.List.{List, [], _∷_}
 use mathlib.Core.Bool.{Bool, true, false, and-false, true≢false}
 use lib.ListN.{length, getD}
-use Rattle.paper.specs.declared.Geometry.{Geometry}
+use Rattle.paper.specs.declared.Module.{Module}
 use Rattle.paper.specs.declared.Settings.{Settings}
 use Rattle.paper.specs.declared.Cursor.{Cursor}
 use Rattle.paper.specs.declared.Window.{Window}
@@ -168,7 +168,7 @@ unfolding stateOf
 read-back s z = rw (back s z, same-self (encoded s))
 
 -- there is no window 5
-broken-refused : (g : Geometry) (s : State) → accepted g (broken s) ≡ false
+broken-refused : (g : Module) (s : State) → accepted g (broken s) ≡ false
 unfolding accepted selectable
 broken-refused g s = simp and-false
 
@@ -176,7 +176,7 @@ not-so : (t : Bool) → (t ≡ true → ⊥) → t ≡ false
 not-so true never = absurd (never refl)
 not-so false never = refl
 
-module _ (g : Geometry) (l : List ℕ) where
+module _ (g : Module) (l : List ℕ) where
   -- a record that stands for an accepted state is its encoding
   pub accepted-record : accepted g (stateOf l) ≡ true → l ≡ encoded (stateOf l)
   unfolding stateOf

@@ -2,7 +2,7 @@
 // It uses the paper, record_half for what is half read, and record_write, to see whether the bytes are those of a state.
 ghost use mathlib.Core.Path.{_≡_};
 ghost use mathlib.Core.Bool.{true};
-ghost use Prim.Native.Nat.{_+_, _*_, _≤_};
+ghost use Prim.Native.Nat.{_+_, _≤_};
 ghost use lib.ListN.{length};
 ghost use Rattle.record_write.specs.Bytes.{recordLength};
 ghost use Rattle.record_read.specs.Record.{wordAt, settingsAt, cursorAt, windowFrom, spanAt, holdAt, slotsAt, decodedWith, Idle, same, stateOf};

@@ -7,7 +7,7 @@ use native.Mathlib.Omega.{arith}
 use lib.ListN.{length, getD, drop}
 use lib.Dec.{ltb, eqb}
 use borrow.Author.Tests.{ltb-true}
-use Rattle.paper.specs.declared.Geometry.{Geometry}
+use Rattle.paper.specs.declared.Module.{Module}
 use Rattle.paper.specs.declared.Span.{Span}
 use Rattle.paper.specs.declared.Style.{Style}
 use Rattle.paper.specs.Strokes.{applyAll}
@@ -33,7 +33,7 @@ place-on : (z : Bool) (n c r : ℕ) → r < 2 → n ≤ c + r → n ≤ cond z c
 place-on true n c r h l = omega arith
 place-on false n c r h l = omega arith
 
-module _ (g : Geometry) (p : Spot) (y : Style) (width height column row : ℕ) (m piece : List ℕ) (from : ℕ) where
+module _ (g : Module) (p : Spot) (y : Style) (width height column row : ℕ) (m piece : List ℕ) (from : ℕ) where
   -- what the rows are marked with at (c, r)
   abbrev pub marksAt : ℕ → ℕ → List Span
   marksAt c r = marksTo (p .view) height column row c r (p .spans)

@@ -7,7 +7,7 @@ use Prim.Native.Nat.{ℕ, zero, suc, _+_, _-_, _<_, _≤_, min}
 use native.Mathlib.Omega.{arith}
 use lib.Dec.{ltb}
 use borrow.Author.Tests.{ltb-true, ltb-false, le-ltb}
-use Rattle.paper.specs.declared.Geometry.{Geometry}
+use Rattle.paper.specs.declared.Module.{Module}
 use Rattle.paper.specs.declared.Span.{Span}
 use Rattle.paper.specs.declared.Style.{Style}
 use Rattle.paper.specs.declared.View.{View}
@@ -23,7 +23,7 @@ pub inside-facts : (x w y h : ℕ) → (ltb x w && ltb y h) ≡ true → (x < w)
 inside-facts x w y h t = let f = and-parts (ltb x w) (ltb y h) t in (ltb-true x w (f .0), ltb-true y h (f .1))
 
 -- a byte in the range is stored, one outside is consumed
-module _ (g : Geometry) (v : View) (y : Style) (column row b : ℕ) (m : List ℕ) where
+module _ (g : Module) (v : View) (y : Style) (column row b : ℕ) (m : List ℕ) where
   pub stored-in : {m′ : List ℕ} → (ltb (v .x + column) (v .width) && ltb (v .y + row) (v .height)) ≡ true
       → m′ ≡ imaged g y (v .left + (v .x + column)) (v .top + (v .y + row)) b m → m′ ≡ applyAll g m (imageStrokes v y column row b)
   unfolding imageStrokes imaged

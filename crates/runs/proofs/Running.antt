@@ -4,17 +4,17 @@ use mathlib.Core.Bool.{true, false, false≢true, _&&_}
 use mathlib.Core.List.{List}
 use Prim.Native.Nat.{ℕ, _+_, _*_, _-_, _<_, _≤_}
 use native.Mathlib.Omega.{arith}
-use lib.ListN.{length, getD, drop}
+use lib.ListN.{length, getD}
 use lib.Dec.{leb}
 use borrow.Author.Tests.{leb-true, le-leb}
-use Rattle.paper.specs.declared.Geometry.{Geometry}
+use Rattle.paper.specs.declared.Module.{Module}
 use Rattle.paper.specs.declared.Span.{Span}
 use Rattle.paper.specs.declared.Style.{Style}
 use Rattle.paper.specs.Strokes.{rectAt, markRect}
 use Rattle.paper.specs.Cells.{cellWidth, cellHeight}
 use Rattle.paper.specs.Moves.{to, characterOf}
 use Rattle.laws_state.specs.Room.{InMemory, Room}
-use Rattle.laws_state.specs.Runs.{Sheet, writtenOn, charactersOf, Within}
+use Rattle.laws_state.specs.Runs.{writtenOn}
 use Rattle.laws_state.proofs.Moves.{character-kept}
 use Rattle.laws_state.proofs.Runs.{within-kept, within-room}
 use Rattle.laws_state.proofs.Taken.{characters-more, characters-stop, characters-end}
@@ -28,7 +28,7 @@ use Rattle.runs.proofs.Marks.{mark-at, mark-none, mark-beside}
 use Rattle.runs.proofs.Lines.{drawn-in-line}
 
 -- what a character did is what it does to a sheet
-on-sheet : (g : Geometry) (font : List ℕ) (w : ℕ) (y : Style) (b : ℕ) (q r : Spot) (n n′ : List ℕ)
+on-sheet : (g : Module) (font : List ℕ) (w : ℕ) (y : Style) (b : ℕ) (q r : Spot) (n n′ : List ℕ)
     → Does g (q .spans) n r n′ (characterOf g font w y b (q .view)) → under r n′ ≡ writtenOn g font w y (under q n) b
 on-sheet g font w y b q r n n′ d = rw (d .view, d .spans, d .mem)
 
@@ -37,7 +37,7 @@ past : (piece : List ℕ) (from i : ℕ) → from ≤ i → 0x20 ≤ getD piece 
 past piece from i l a b =
     eq-cases from i (λ e. let f : getD piece from 0 < 0x20 = rw e b in absurd (omega arith)) (λ n. omega arith)
 
-module _ (g : Geometry) (font : List ℕ) (w : ℕ) (y : Style) (p : Spot) (m piece : List ℕ) (from : ℕ) where
+module _ (g : Module) (font : List ℕ) (w : ℕ) (y : Style) (p : Spot) (m piece : List ℕ) (from : ℕ) where
   -- nothing drawn yet
   pub went-begin : InMemory g (p .view) → from < length piece → Went g font w y p m piece from (drawnTo p from) m
   went-begin i l =
@@ -51,7 +51,7 @@ module _ (g : Geometry) (font : List ℕ) (w : ℕ) (y : Style) (p : Spot) (m pi
 
   module _ (q : Spot) (n : List ℕ) (i : ℕ) (k : Went g font w y p m piece from (drawnTo q i) n) where
     -- a character more
-    pub went-next : {r : Spot} {n′ : List ℕ} → Room g (p .view) (cellWidth w y) (cellHeight y) → i < length piece → 0x20 ≤ getD piece i 0
+    pub went-next : {r : Spot} {n′ : List ℕ} → Room g (p .view) (cellWidth g w y) (cellHeight y) → i < length piece → 0x20 ≤ getD piece i 0
         → Does g (q .spans) n r n′ (characterOf g font w y (getD piece i 0) (q .view)) → length n′ ≡ length n
         → Went g font w y p m piece from (drawnTo r (i + 1)) n′
     went-next {r} {n′} room l b d e =
@@ -134,28 +134,28 @@ module _ (g : Geometry) (font : List ℕ) (w : ℕ) (y : Style) (p : Spot) (m pi
 
   module _ (l : ℕ) (n : List ℕ) (a i : ℕ) (k : Lining l n a i) where
     -- the cell at column a, marked after the line, is the line a cell longer
-    longer : markRect (rectAt (p .view .left + (a - p .view .left)) (p .view .top + p .view .y) (cellWidth w y) l) (penAt p l a .spans)
-        ≡ penAt p l (a + cellWidth w y) .spans
+    longer : markRect (rectAt (p .view .left + (a - p .view .left)) (p .view .top + p .view .y) (cellWidth g w y) l) (penAt p l a .spans)
+        ≡ penAt p l (a + cellWidth g w y) .spans
     longer =
         mark-at (penAt p l a .spans) (omega (arith, k .on)) refl refl refl
-        ∙ mark-beside start (p .view .top + p .view .y) (a - p .view .left - p .view .x) (cellWidth w y) l (p .spans)
+        ∙ mark-beside start (p .view .top + p .view .y) (a - p .view .left - p .view .x) (cellWidth g w y) l (p .spans)
         ∙ mark-at (p .spans) refl refl (omega (arith, k .on)) refl
 
     -- a cell more
-    pub lining-next : {n′ : List ℕ} → Room g (p .view) (cellWidth w y) (cellHeight y) → l ≡ cellHeight y → i < length piece
-        → 0x20 ≤ getD piece i 0 → a + 2 * cellWidth w y ≤ p .view .left + p .view .width → p .view .y + l ≤ p .view .height
-        → n′ ≡ drawn g font (getD piece i 0) w y (rectAt a (p .view .top + p .view .y) (cellWidth w y) l) n
-        → length n′ ≡ length n → Lining l n′ (a + cellWidth w y) (i + 1)
+    pub lining-next : {n′ : List ℕ} → Room g (p .view) (cellWidth g w y) (cellHeight y) → l ≡ cellHeight y → i < length piece
+        → 0x20 ≤ getD piece i 0 → a + 2 * cellWidth g w y ≤ p .view .left + p .view .width → p .view .y + l ≤ p .view .height
+        → n′ ≡ drawn g font (getD piece i 0) w y (rectAt a (p .view .top + p .view .y) (cellWidth g w y) l) n
+        → length n′ ≡ length n → Lining l n′ (a + cellWidth g w y) (i + 1)
     lining-next room e h b across down d s =
         record {
           went =
               went-next (penAt p l a) n i (k .went) room h b
               (drawn-in-line g (penAt p l a .spans) n font w y (getD piece i 0) (to (p .view) (a - p .view .left) (p .view .y))
               (omega (arith, k .on)) (rw (← e) down)
-              (ap (λ (x : ℕ). spot (to (p .view) x (p .view .y)) (penAt p l (a + cellWidth w y) .spans)) (omega (arith, k .on)))
+              (ap (λ (x : ℕ). spot (to (p .view) x (p .view .y)) (penAt p l (a + cellWidth g w y) .spans)) (omega (arith, k .on)))
               (sym longer
-              ∙ ap (λ (h : ℕ). markRect (rectAt (p .view .left + (a - p .view .left)) (p .view .top + p .view .y) (cellWidth w y) h) (penAt p l a .spans)) e)
-              (d ∙ ap₂ (λ (x h : ℕ). drawn g font (getD piece i 0) w y (rectAt x (p .view .top + p .view .y) (cellWidth w y) h) n)
+              ∙ ap (λ (h : ℕ). markRect (rectAt (p .view .left + (a - p .view .left)) (p .view .top + p .view .y) (cellWidth g w y) h) (penAt p l a .spans)) e)
+              (d ∙ ap₂ (λ (x h : ℕ). drawn g font (getD piece i 0) w y (rectAt x (p .view .top + p .view .y) (cellWidth g w y) h) n)
               (omega (arith, k .on)) e)) s;
           on = omega (arith, k .on);
           begun = λ f. absurd (omega (arith, k .went .low));

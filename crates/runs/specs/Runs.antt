@@ -5,7 +5,7 @@ use mathlib.Core.List.{List}
 use Prim.Native.Nat.{ℕ, _+_, _-_, _<_, _≤_, min}
 use lib.ListN.{length, drop}
 use lib.Dec.{ltb}
-use Rattle.paper.specs.declared.Geometry.{Geometry}
+use Rattle.paper.specs.declared.Module.{Module}
 use Rattle.paper.specs.declared.Span.{Span}
 use Rattle.paper.specs.declared.Style.{Style}
 use Rattle.paper.specs.declared.View.{View}
@@ -34,7 +34,7 @@ penAt p l end =
     (markRect (rectAt (p .view .left + p .view .x) (p .view .top + p .view .y) (end - p .view .left - p .view .x) l) (p .spans))
 
 -- some characters drawn, from one place of a piece to another: what is left gives what the whole gives
-pub record Went (g : Geometry) (font : List ℕ) (w : ℕ) (y : Style) (p : Spot) (m piece : List ℕ) (from : ℕ) (r : Drawn) (m′ : List ℕ) : Type 0 where
+pub record Went (g : Module) (font : List ℕ) (w : ℕ) (y : Style) (p : Spot) (m piece : List ℕ) (from : ℕ) (r : Drawn) (m′ : List ℕ) : Type 0 where
   pub low : from ≤ r .at
   pub high : r .at ≤ length piece
   pub size : length m′ ≡ length m
@@ -42,7 +42,7 @@ pub record Went (g : Geometry) (font : List ℕ) (w : ℕ) (y : Style) (p : Spot
   pub done : charactersOf g font w y (under (r .spot) m′) (drop (r .at) piece) ≡ charactersOf g font w y (under p m) (drop from piece)
 
 -- a run of characters from one place of a piece to another, where the piece ends or a byte is none
-pub record Ran (g : Geometry) (font : List ℕ) (w : ℕ) (y : Style) (p : Spot) (m piece : List ℕ) (from : ℕ) (r : Drawn) (m′ : List ℕ) : Type 0 where
+pub record Ran (g : Module) (font : List ℕ) (w : ℕ) (y : Style) (p : Spot) (m piece : List ℕ) (from : ℕ) (r : Drawn) (m′ : List ℕ) : Type 0 where
   pub some : from < r .at
   pub end : r .at ≤ length piece
   pub within : Within (p .view) (r .spot .view)
@@ -76,7 +76,7 @@ filledTo p height column row x y at =
     record { spans = marksTo (p .view) height column row x y (p .spans); column = x; row = y; at = at }
 
 -- a run of an image's bytes from one place of a piece to another, where the piece or the image ends
-pub record Stocked (g : Geometry) (p : Spot) (y : Style) (width height column row : ℕ) (m piece : List ℕ) (from : ℕ) (r : Filled) (m′ : List ℕ) : Type 0 where
+pub record Stocked (g : Module) (p : Spot) (y : Style) (width height column row : ℕ) (m piece : List ℕ) (from : ℕ) (r : Filled) (m′ : List ℕ) : Type 0 where
   pub some : from < r .at
   pub end : r .at ≤ length piece
   pub done : stored (image (r .spans) m′ (r .column) (r .row)) (drop (r .at) piece)

@@ -4,7 +4,7 @@
 // Each contract says that the run is the fold of its single bytes.
 use cells::Cell;
 use moves::Spot;
-use paper::Geometry;
+use paper::Module;
 use paper::Rect;
 use paper::Span;
 use paper::Style;
@@ -50,7 +50,7 @@ fn drawn_to(p: Spot, l: usize, end: usize, at: usize) -> Drawn
 
 // The characters that stand in the cursor's line with room for another after each.
 fn line(
-    g: Geometry,
+    g: Module,
     mem: &mut [u8],
     font: &[u8],
     p: Spot,
@@ -58,7 +58,7 @@ fn line(
     piece: &[u8],
     from: usize,
 ) -> Drawn
-    requires { ⌜ Usable g × (Room g (p .view) (cell .columns) (cell .rows) × (Inked (now font) cell 0x20 × Fits g (now mem))) ⌝ }
+    requires { ⌜ Usable g × (Room g (p .view) (cell .columns) (cell .rows) × (Inked g (now font) cell 0x20 × Fits g (now mem))) ⌝ }
     requires { ⌜ (from < length (now piece)) × (0x20 ≤ getD (now piece) from 0) ⌝ }
     requires { ⌜ (p .view .x + 2 * cell .columns ≤ p .view .width) × (p .view .y + cell .rows ≤ p .view .height) ⌝ }
     ensures { λ r. ⌜ (from < r .at) × Went g (now (font .entry)) (cell .blanks) (cell .style) p (now (mem .entry))
@@ -66,7 +66,6 @@ fn line(
 {
     let v = p.view;
     let end = v.left + v.width;
-    let style = cell.style;
     let c = cell.columns;
     let mut r = Rect {
         left: v.left + v.x,
@@ -78,7 +77,7 @@ fn line(
     while i < piece.len() {
         let b = piece[i];
         if (0x20 <= b) & (r.left + 2 * c <= end) {
-            cells::draw(g, mem, font, b, cell.blanks, style, r);
+            cells::draw_whole(g, mem, font, b, cell, r.left, r.top);
             r.left += c;
             i += 1;
         } else {
@@ -89,8 +88,8 @@ fn line(
 }
 
 // A character in MD3's last cell: drawn, and the line pushed left. It is the mode's way with each character of a full line.
-fn push(g: Geometry, mem: &mut [u8], font: &[u8], p: Spot, cell: Cell, code: u8) -> Spot
-    requires { ⌜ Usable g × (Room g (p .view) (cell .columns) (cell .rows) × (Inked (now font) cell code × Fits g (now mem))) ⌝ }
+fn push(g: Module, mem: &mut [u8], font: &[u8], p: Spot, cell: Cell, code: u8) -> Spot
+    requires { ⌜ Usable g × (Room g (p .view) (cell .columns) (cell .rows) × (Inked g (now font) cell code × Fits g (now mem))) ⌝ }
     requires { ⌜ (p .view .mode ≡ 3) × (p .view .width < p .view .x + 2 * cell .columns) × (p .view .x + cell .columns ≤ p .view .width) ⌝ }
     ensures { λ r. ⌜ Does g (p .spans) (now (mem .entry)) r (now (mem .exit))
         (characterOf g (now (font .entry)) (cell .blanks) (cell .style) code (p .view)) ⌝ }
@@ -104,8 +103,8 @@ fn push(g: Geometry, mem: &mut [u8], font: &[u8], p: Spot, cell: Cell, code: u8)
 }
 
 // One character where the cursor's line has no room for another after it.
-fn last(g: Geometry, mem: &mut [u8], font: &[u8], p: Spot, cell: Cell, code: u8) -> Spot
-    requires { ⌜ Usable g × (Room g (p .view) (cell .columns) (cell .rows) × (Inked (now font) cell code × Fits g (now mem))) ⌝ }
+fn last(g: Module, mem: &mut [u8], font: &[u8], p: Spot, cell: Cell, code: u8) -> Spot
+    requires { ⌜ Usable g × (Room g (p .view) (cell .columns) (cell .rows) × (Inked g (now font) cell code × Fits g (now mem))) ⌝ }
     ensures { λ r. ⌜ Does g (p .spans) (now (mem .entry)) r (now (mem .exit))
         (characterOf g (now (font .entry)) (cell .blanks) (cell .style) code (p .view)) ⌝ }
 {
@@ -122,7 +121,7 @@ fn last(g: Geometry, mem: &mut [u8], font: &[u8], p: Spot, cell: Cell, code: u8)
 
 // The characters of a line; where the cursor's has no room for another after it, the one that wraps.
 fn stretch(
-    g: Geometry,
+    g: Module,
     mem: &mut [u8],
     font: &[u8],
     p: Spot,
@@ -130,7 +129,7 @@ fn stretch(
     piece: &[u8],
     from: usize,
 ) -> Drawn
-    requires { ⌜ Usable g × (Room g (p .view) (cell .columns) (cell .rows) × (Inked (now font) cell 0x20 × Fits g (now mem))) ⌝ }
+    requires { ⌜ Usable g × (Room g (p .view) (cell .columns) (cell .rows) × (Inked g (now font) cell 0x20 × Fits g (now mem))) ⌝ }
     requires { ⌜ (from < length (now piece)) × (0x20 ≤ getD (now piece) from 0) × (from + 1 < 2 ^ 64) ⌝ }
     ensures { λ r. ⌜ (from < r .at) × Went g (now (font .entry)) (cell .blanks) (cell .style) p (now (mem .entry))
         (now (piece .entry)) from r (now (mem .exit)) ⌝ }
@@ -149,7 +148,7 @@ fn stretch(
 
 // The characters of a piece from `from` on, up to the first byte that is none.
 pub fn run(
-    g: Geometry,
+    g: Module,
     mem: &mut [u8],
     font: &[u8],
     p: Spot,
@@ -158,11 +157,11 @@ pub fn run(
     piece: &[u8],
     from: usize,
 ) -> Drawn
-    requires { ⌜ Usable g × (Room g (p .view) (cellWidth w style) (cellHeight style) × (Inked (now font) (cellOf w style) 0x20 × Fits g (now mem))) ⌝ }
+    requires { ⌜ Usable g × (Room g (p .view) (cellWidth g w style) (cellHeight style) × (Inked g (now font) (cellOf g w style) 0x20 × Fits g (now mem))) ⌝ }
     requires { ⌜ (from < length (now piece)) × (0x20 ≤ getD (now piece) from 0) ⌝ }
     ensures { λ r. ⌜ Ran g (now (font .entry)) w style p (now (mem .entry)) (now (piece .entry)) from r (now (mem .exit)) ⌝ }
 {
-    let cell = cells::cell_of(w, style);
+    let cell = cells::cell_of(g, w, style);
     let mut q = p;
     let mut i = from;
     while i < piece.len() {
@@ -203,7 +202,7 @@ fn place_after(height: u16, column: u16, row: u16) -> Place
 }
 
 // Stores one byte of an image, so far from the cursor; outside the range it is consumed. Nothing is marked.
-fn store(g: Geometry, mem: &mut [u8], v: View, style: Style, column: u16, row: u16, byte: u8)
+fn store(g: Module, mem: &mut [u8], v: View, style: Style, column: u16, row: u16, byte: u8)
     requires { ⌜ Usable g × (InMemory g v × Fits g (now mem)) ⌝ }
     ensures { λ _. ⌜ now (mem .exit) ≡ applyAll g (now (mem .entry)) (imageStrokes v style column row byte) ⌝ }
 {
@@ -274,7 +273,7 @@ fn filled_to(p: Spot, height: u16, column: u16, row: u16, x: u16, y: u16, at: us
 
 // The bytes of an image, two rows high at most, in a piece from `from` on, up to the piece's end or the image's.
 pub fn image_bytes(
-    g: Geometry,
+    g: Module,
     mem: &mut [u8],
     p: Spot,
     style: Style,

@@ -2,10 +2,10 @@
 // range in which a command works. It may use the paper alone, and it knows nothing of memory or of how bytes are read.
 // Each contract is the paper's definition of the same name.
 use paper::Cursor;
-use paper::Geometry;
 use paper::Half;
 use paper::Hold;
 use paper::Key;
+use paper::Module;
 use paper::Settings;
 use paper::Span;
 use paper::State;
@@ -21,8 +21,8 @@ ghost use Rattle.paper.specs.Carry.{isHeld, notCarriedValue, isWrite};
 // ---- the initial state
 
 // The initial settings.
-fn initial_settings() -> Settings
-    ensures { λ r. ⌜ r ≡ initialSettings ⌝ }
+fn initial_settings(g: Module) -> Settings
+    ensures { λ r. ⌜ r ≡ initialSettings g ⌝ }
 {
     let style = Style {
         reverse: 0,
@@ -34,7 +34,7 @@ fn initial_settings() -> Settings
         charset: 0,
         codes: 0,
         caret: 0,
-        brightness: 8,
+        brightness: g.brightness,
         speed: 0,
         width: 1,
         write: 0,
@@ -72,14 +72,14 @@ fn no_window() -> Window
 }
 
 // The initial state, both spans empty.
-pub fn initial_state(g: Geometry) -> State
+pub fn initial_state(g: Module) -> State
     requires { ⌜ g .rows ≡ 2 ⌝ }
     ensures { λ r. ⌜ r ≡ initialState g ⌝ }
 {
     let none = no_window();
     let nothing = Span { first: 0, end: 0 };
     State {
-        settings: initial_settings(),
+        settings: initial_settings(g),
         windows: [none, none, none, none],
         base: top_left(),
         selected: 0,
@@ -258,7 +258,7 @@ pub fn in_mode(s: State, mode: u8) -> State
 }
 
 // Whether a place counted from the current window's top left lies in it.
-pub fn inside_window(g: Geometry, s: State, x: u16, y: u16) -> bool
+pub fn inside_window(g: Module, s: State, x: u16, y: u16) -> bool
     requires { ⌜ s .selected ≤ 4 ⌝ }
     ensures { λ r. ⌜ r ≡ insideWindow g s x y ⌝ }
 {
@@ -273,7 +273,7 @@ pub fn inside_window(g: Geometry, s: State, x: u16, y: u16) -> bool
 // ---- the range
 
 // The base window's range, by the write mode and where its cursor is.
-fn base_view(g: Geometry, write: u8, c: Cursor) -> View
+fn base_view(g: Module, write: u8, c: Cursor) -> View
     requires { ⌜ g .visible ≤ g .columns ⌝ }
     ensures { λ r. ⌜ r ≡ baseView g write c ⌝ }
 {
@@ -318,7 +318,7 @@ fn window_view(w: Window) -> View
 }
 
 // The range in which a command works, with the cursor counted from its top left.
-pub fn view_of(g: Geometry, s: State) -> View
+pub fn view_of(g: Module, s: State) -> View
     requires { ⌜ (s .selected ≤ 4) × (g .visible ≤ g .columns) ⌝ }
     ensures { λ r. ⌜ r ≡ viewOf g s ⌝ }
 {

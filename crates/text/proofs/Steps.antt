@@ -3,7 +3,7 @@ use mathlib.Core.Path.{_≡_, _∙_}
 use mathlib.Core.List.{List}
 use Prim.Native.Nat.{ℕ}
 use lib.ListN.{length}
-use Rattle.paper.specs.declared.Geometry.{Geometry}
+use Rattle.paper.specs.declared.Module.{Module}
 use Rattle.paper.specs.declared.Span.{Span}
 use Rattle.paper.specs.declared.View.{View}
 use Rattle.paper.specs.Cells.{cellWidth, cellHeight}
@@ -18,16 +18,16 @@ use Rattle.moves.specs.Does.{Does}
 use Rattle.text.specs.Inked.{Inked}
 
 -- room for a cell is room for one of the size that its settings ask for
-pub sized-room : {g : Geometry} {v : View} (c : Cell) → Drawable c → Room g v (c .columns) (c .rows)
-    → Room g v (cellWidth (c .blanks) (c .style)) (cellHeight (c .style))
+pub sized-room : {g : Module} {v : View} (c : Cell) → Drawable g c → Room g v (c .columns) (c .rows)
+    → Room g v (cellWidth g (c .blanks) (c .style)) (cellHeight (c .style))
 sized-room c k i = rw (k .columns, k .rows) at i
 
-module _ {g : Geometry} {ps : List Span} {m : List ℕ} where
+module _ {g : Module} {ps : List Span} {m : List ℕ} where
   -- what drawing asks is still there after a move that keeps its range
   pub ready-after : {font : List ℕ} {code : ℕ} {m₁ : List ℕ} {q : Spot} (c : Cell) (v : View) (t : Moved)
       → Does g ps m q m₁ t → Kept v t → length m₁ ≡ length m
-      → Usable g × (Room g v (c .columns) (c .rows) × (Inked font c code × Fits g m))
-      → Usable g × (Room g (q .view) (c .columns) (c .rows) × (Inked font c code × Fits g m₁))
+      → Usable g × (Room g v (c .columns) (c .rows) × (Inked g font c code × Fits g m))
+      → Usable g × (Room g (q .view) (c .columns) (c .rows) × (Inked g font c code × Fits g m₁))
   ready-after c v t d k e ready =
       let fits = ready .1 .1 .1 in (
         ready .0,

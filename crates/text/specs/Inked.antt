@@ -3,12 +3,13 @@ use mathlib.Core.Path.{_≡_}
 use mathlib.Core.List.{List}
 use Prim.Native.Nat.{ℕ, _≤_}
 use lib.ListN.{length}
+use Rattle.paper.specs.declared.Module.{Module}
 use Rattle.paper.specs.Panel.{fontLength}
 use Rattle.cells.specs.declared.Cell.{Cell}
 use Rattle.cells.specs.Cell.{Drawable}
 
 -- a whole font, a code that it has, and a cell that can be drawn
-pub record Inked (font : List ℕ) (c : Cell) (code : ℕ) : Type 0 where
-  pub whole : length font ≡ fontLength
+pub record Inked (g : Module) (font : List ℕ) (c : Cell) (code : ℕ) : Type 0 where
+  pub whole : length font ≡ fontLength g
   pub has : 0x20 ≤ code
-  pub cell : Drawable c
+  pub cell : Drawable g c

@@ -3,7 +3,7 @@
 // Each contract says that what was done is what the paper's definition of the same name means.
 use cells::Cell;
 use moves::Spot;
-use paper::Geometry;
+use paper::Module;
 use paper::Rect;
 use paper::View;
 ghost use mathlib.Core.Path.{_≡_};
@@ -36,8 +36,8 @@ pub fn inside(v: View, c: usize, l: usize) -> Rect
 }
 
 // Draws the cell of a code at the cursor, then HT.
-fn draw_tab(g: Geometry, mem: &mut [u8], font: &[u8], p: Spot, cell: Cell, code: u8) -> Spot
-    requires { ⌜ Usable g × (Room g (p .view) (cell .columns) (cell .rows) × (Inked (now font) cell code × Fits g (now mem))) ⌝ }
+fn draw_tab(g: Module, mem: &mut [u8], font: &[u8], p: Spot, cell: Cell, code: u8) -> Spot
+    requires { ⌜ Usable g × (Room g (p .view) (cell .columns) (cell .rows) × (Inked g (now font) cell code × Fits g (now mem))) ⌝ }
     ensures { λ r. ⌜ Does g (p .spans) (now (mem .entry)) r (now (mem .exit))
         (drawTab g (now (font .entry)) (cell .blanks) (cell .style) code (p .view)) ⌝ }
 {
@@ -50,8 +50,8 @@ fn draw_tab(g: Geometry, mem: &mut [u8], font: &[u8], p: Spot, cell: Cell, code:
 }
 
 // Draws an all-off cell at the cursor, then HT.
-fn blank_tab(g: Geometry, mem: &mut [u8], p: Spot, cell: Cell) -> Spot
-    requires { ⌜ Usable g × (Room g (p .view) (cell .columns) (cell .rows) × (Drawable cell × Fits g (now mem))) ⌝ }
+fn blank_tab(g: Module, mem: &mut [u8], p: Spot, cell: Cell) -> Spot
+    requires { ⌜ Usable g × (Room g (p .view) (cell .columns) (cell .rows) × (Drawable g cell × Fits g (now mem))) ⌝ }
     ensures { λ r. ⌜ Does g (p .spans) (now (mem .entry)) r (now (mem .exit)) (blankTab g (cell .blanks) (cell .style) (p .view)) ⌝ }
 {
     let v = p.view;
@@ -63,8 +63,8 @@ fn blank_tab(g: Geometry, mem: &mut [u8], p: Spot, cell: Cell) -> Spot
 }
 
 // A character: drawn where it fits; else after the wrap that the mode asks for.
-pub fn character(g: Geometry, mem: &mut [u8], font: &[u8], p: Spot, cell: Cell, code: u8) -> Spot
-    requires { ⌜ Usable g × (Room g (p .view) (cell .columns) (cell .rows) × (Inked (now font) cell code × Fits g (now mem))) ⌝ }
+pub fn character(g: Module, mem: &mut [u8], font: &[u8], p: Spot, cell: Cell, code: u8) -> Spot
+    requires { ⌜ Usable g × (Room g (p .view) (cell .columns) (cell .rows) × (Inked g (now font) cell code × Fits g (now mem))) ⌝ }
     ensures { λ r. ⌜ Does g (p .spans) (now (mem .entry)) r (now (mem .exit))
         (characterOf g (now (font .entry)) (cell .blanks) (cell .style) code (p .view)) ⌝ }
 {

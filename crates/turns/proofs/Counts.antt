@@ -3,7 +3,7 @@ use mathlib.Core.Path.{_≡_}
 use mathlib.Core.List.{List}
 use Prim.Native.Nat.{ℕ, _+_, _≤_}
 use native.Mathlib.Omega.{arith}
-use Rattle.paper.specs.declared.Geometry.{Geometry}
+use Rattle.paper.specs.declared.Module.{Module}
 use Rattle.paper.specs.declared.Fed.{Fed}
 use Rattle.paper.specs.declared.Outcome.{Outcome}
 use Rattle.paper.specs.Numbers.{carriedBy, answeredBy}
@@ -12,7 +12,7 @@ use Rattle.paper.specs.Calls.{feeding, counted}
 use Rattle.laws_bytes.proofs.Counts.{one-at-most}
 use Rattle.carry_state.specs.declared.Done.{Done}
 use Rattle.carry_dots.specs.Does.{Does}
-use Rattle.turns.specs.Turns.{fed}
+use Rattle.laws_state.specs.Told.{fed}
 
 -- a byte adds at most one to either count
 pub carried-one : (o : Outcome) → carriedBy o ≤ 1
@@ -22,7 +22,7 @@ pub answered-one : (o : Outcome) → answeredBy o ≤ 1
 answered-one o = omega (arith, one-at-most o)
 
 -- what a byte did, counted
-pub counted-by : (g : Geometry) (f : Fed) (d : Done) (m m′ : List ℕ) (t : Meaning) (c a : ℕ) → Does g m d m′ t
+pub counted-by : (g : Module) (f : Fed) (d : Done) (m m′ : List ℕ) (t : Meaning) (c a : ℕ) → Does g m d m′ t
     → c ≡ carriedBy (d .outcome) → a ≡ answeredBy (d .outcome)
     → feeding (f .refusal) (d .state) (f .carried + c) (f .answered + a) (d .outcome) m′ ≡ counted g (fed f m) t
 counted-by g f d m m′ t c a h e k = rw (e, k, h .state, h .outcome, h .mem)

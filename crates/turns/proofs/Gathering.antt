@@ -6,7 +6,7 @@ use Prim.Native.Nat.{ℕ, _+_, _<_, _≤_}
 use native.Mathlib.Nat.{add-zero}
 use native.Mathlib.Omega.{arith}
 use lib.ListN.{length, getD, drop, length-drop}
-use Rattle.paper.specs.declared.Geometry.{Geometry}
+use Rattle.paper.specs.declared.Module.{Module}
 use Rattle.paper.specs.declared.Half.{Half}
 use Rattle.paper.specs.declared.Reading.{Reading}
 use Rattle.paper.specs.declared.Reading.the-variants.{More, Whole, ImageByte, ImageEnd, Cancels, UnknownCode}
@@ -27,7 +27,7 @@ use Rattle.laws_state.proofs.Reached.{reaches-next}
 use Rattle.laws_state.proofs.Taken.{from-here}
 use Rattle.turns.specs.Turns.{Gathers, here, byte}
 
-module _ {g : Geometry} where
+module _ {g : Module} where
   -- one byte more
   pub gathers-more : {q : Reading} {bs : List ℕ} {h : Half} {r : Reading} (b : ℕ) {rest : List ℕ} → Gathers g q bs (More h) (b ∷ rest) → readOf g h b ≡ r
       → Gathers g q bs r rest
@@ -46,7 +46,7 @@ module _ {g : Geometry} where
   gathers-ok (byte {h} {b = b} e p) k = gathers-ok p (rw (← e) (reads-ok g h b k))
 
 -- what is half read does not matter for what a reading does
-half-aside : (g : Geometry) (font : List ℕ) (s : State) (h : Half) (q : Reading) → takeOf g font (withHalf s h) q ≡ takeOf g font s q
+half-aside : (g : Module) (font : List ℕ) (s : State) (h : Half) (q : Reading) → takeOf g font (withHalf s h) q ≡ takeOf g font s q
 unfolding takeOf viewOf
 half-aside g font s h (More p) = refl
 half-aside g font s h (Whole c) = refl
@@ -55,7 +55,7 @@ half-aside g font s h (ImageEnd column row b) = refl
 half-aside g font s h Cancels = refl
 half-aside g font s h UnknownCode = refl
 
-module _ (g : Geometry) (font : List ℕ) (r : Refusal) (c a : ℕ) (m : List ℕ) where
+module _ (g : Module) (font : List ℕ) (r : Refusal) (c a : ℕ) (m : List ℕ) where
   -- a byte that leaves the command half read
   half-next : (s : State) (o : Outcome) (b : ℕ) (h : Half) → readOf g (s .half) b ≡ More h
       → next g font (feeding r s c a o m) b ≡ feeding r (withHalf s h) c a Unfinished m

@@ -1,3 +1,5 @@
 pub mod Counts
 pub mod Gathering
 pub mod Turns
+pub mod Desk
+pub mod Light

@@ -8,7 +8,7 @@ use native.Mathlib.Omega.{arith}
 use lib.ListN.{length, getD, drop, length-drop}
 use lib.Dec.{ltb, eqb}
 use borrow.Author.Tests.{le-leb, ltb-true}
-use Rattle.paper.specs.declared.Geometry.{Geometry}
+use Rattle.paper.specs.declared.Module.{Module}
 use Rattle.paper.specs.declared.Fed.{Fed}
 use Rattle.paper.specs.declared.Half.{Half}
 use Rattle.paper.specs.declared.Half.the-variants.{Nothing, ImageData}
@@ -29,11 +29,12 @@ use Rattle.laws_state.proofs.Sheets.{view-same}
 use Rattle.laws_state.proofs.Reached.{reaches-next}
 use Rattle.laws_state.proofs.Runs.{penned, penned-within, character-next, characters-reached, image-bytes-reached}
 use Rattle.laws_state.proofs.Taken.{from-here}
-use Rattle.turns.specs.Turns.{fed, Drawable}
+use Rattle.laws_state.specs.Told.{fed}
+use Rattle.turns.specs.Turns.{Drawable}
 
 -- ---- characters
 
-module _ (g : Geometry) (font : List ℕ) (u : Usable g) (f : Fed) (m piece : List ℕ) (i : ℕ) where
+module _ (g : Module) (font : List ℕ) (u : Usable g) (f : Fed) (m piece : List ℕ) (i : ℕ) where
   -- the sheet of a state
   abbrev pub begun : Sheet
   begun = sheet (viewOf g (f .state)) (f .state .spans) m
@@ -84,7 +85,7 @@ module _ (g : Geometry) (font : List ℕ) (u : Usable g) (f : Fed) (m piece : Li
 
 -- ---- an image's bytes
 
-module _ (g : Geometry) (font : List ℕ) (f : Fed) (m piece : List ℕ) (i width height column row : ℕ) where
+module _ (g : Module) (font : List ℕ) (f : Fed) (m piece : List ℕ) (i width height column row : ℕ) where
   -- a run of an image's bytes from there on
   image-bytes-turn : (j : Image) (at : ℕ) → f .state .half ≡ ImageData width height column row → column < width → i < length piece
       → stored j (drop at piece)
@@ -128,14 +129,14 @@ module _ (g : Geometry) (font : List ℕ) (f : Fed) (m piece : List ℕ) (i widt
 -- ---- what the runs ask
 
 -- what `settle` asks of a cursor in the range
-pub settles-within : (g : Geometry) (s : State) (v : View) → Usable g → accepted g s ≡ true → Within (viewOf g s) v
+pub settles-within : (g : Module) (s : State) (v : View) → Usable g → accepted g s ≡ true → Within (viewOf g s) v
     → (s .selected ≤ 4) × (v .left + v .x < 65536) × (v .top + v .y < 65536)
 settles-within g s v u ok i =
     let p = view-place g u s ok in
     (selected-small g s ok, omega arith, omega arith)
 
 -- the next byte's place is one of the image's, which is no higher than the memory
-pub image-bounds : (g : Geometry) (s : State) (width height column row : ℕ) → accepted g s ≡ true → s .half ≡ ImageData width height column row
+pub image-bounds : (g : Module) (s : State) (width height column row : ℕ) → accepted g s ≡ true → s .half ≡ ImageData width height column row
     → (column < width) × (row < height) × (height ≤ g .rows)
 unfolding halfOk
 image-bounds g s width height column row ok e =

@@ -8,7 +8,7 @@ use Rattle.paper.specs.declared.Fed.{Fed}
 use Rattle.paper.specs.declared.Refreshed.{Refreshed}
 use Rattle.paper.specs.Panel.{panel}
 use Rattle.paper.specs.Calls.{Starting, Feeding, Refreshing, startCall, feedCall, refreshCall}
-use Rattle.panel.specs.Told.{started, fed, refreshed}
+use Rattle.laws_state.specs.Told.{started, fed, refreshed}
 use Rattle.view_show.specs.declared.Counts.{Counts}
 use Rattle.view_show.specs.Shown.{Shows, fedFresh, shownFresh}
 

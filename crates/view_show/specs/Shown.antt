@@ -2,16 +2,16 @@
 use Prim.Native.Nat.{ℕ}
 use mathlib.Core.List.{List}
 use mathlib.Core.Path.{_≡_}
-use Rattle.paper.specs.declared.Geometry.{Geometry}
+use Rattle.paper.specs.declared.Module.{Module}
 use Rattle.paper.specs.Calls.{Feeding, Refreshing, startCall, feedCall, refreshCall}
 use Rattle.view_show.specs.declared.Counts.{Counts}
 
 -- the stream, fed to a panel that was started with a memory
-unfoldable pub fedFresh : Geometry → List ℕ → List ℕ → List ℕ → Feeding
+unfoldable pub fedFresh : Module → List ℕ → List ℕ → List ℕ → Feeding
 fedFresh g font m stream = feedCall g font (startCall g m .answer .state) (startCall g m .mem) stream
 
 -- the refresh after it
-unfoldable pub shownFresh : Geometry → List ℕ → List ℕ → List ℕ → List ℕ → Refreshing
+unfoldable pub shownFresh : Module → List ℕ → List ℕ → List ℕ → List ℕ → Refreshing
 shownFresh g font m stream glass =
     refreshCall g (fedFresh g font m stream .answer .state) (fedFresh g font m stream .mem) glass
 

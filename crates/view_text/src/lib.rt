@@ -1,7 +1,6 @@
 // Text and numbers, each put into a lent buffer, and a part of a buffer. Every call that puts takes the place where to put and
 // answers the place after it; what does not fit in the buffer is dropped. It uses nothing.
-ghost use Prim.Native.Nat.{_≤_, _<_};
-ghost use lib.ListN.{length};
+ghost use Prim.Native.Nat.{_<_};
 
 // The bytes from a to before e; none if they do not lie in the buffer.
 pub fn part(from: &[u8], a: usize, e: usize) -> &[u8] {

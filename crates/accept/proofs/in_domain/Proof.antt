@@ -20,9 +20,9 @@ in-domain-spec =
     (λ c. c .match .keys9)
     -- what each arm gives
     (λ c. rw (c .enum-told .given .1))
-    (λ c. rw (c .enum-told2 .given .1))
+    (λ c. rw (c .before .enum-told2 .given .1))
     (λ c. rw (c .enum-told3 .given .1))
-    (λ c. rw (c .enum-told4 .given .1))
+    (λ c. rw (c .before .before .before .enum-told4 .given .1))
     (λ c. rw (c .enum-told5 .given .1))
     (λ c. rw (c .enum-told6 .given .1))
     (λ c. rw (c .enum-told7 .given .1))

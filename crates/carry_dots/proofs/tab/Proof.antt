@@ -1,90 +1,97 @@
 -- `carry_dots::tab` meets its contract: 16 if a cell exceeds the range. Assumes nothing.
 use borrow.Author.Needs.{needs}
-use mathlib.Core.Path.{refl}
+use mathlib.Core.Path.{_≡_, refl}
 use mathlib.Core.Bool.{true, false}
 use native.Mathlib.Omega.{arith}
 use Rattle.paper.specs.declared.Command.the-variants.{Tab}
 use Rattle.paper.specs.Settings.{viewOf}
 use Rattle.paper.specs.Moves.{htOf}
-use Rattle.paper.specs.Carry.{asks, carriedOut, widthNow, heightNow}
+use Rattle.paper.specs.Carry.{asks, carriedOut, widthNow, heightNow, exceeds}
 use Rattle.carry_state.proofs.Answers.{is-16, is-10, ends-at}
 use Rattle.carry_state.proofs.Facts.{selected-small}
+use Rattle.laws_state.specs.Room.{Room}
 use Rattle.laws_state.proofs.Moves.{ht-kept}
 use Rattle.laws_state.proofs.Views.{view-room}
-use Rattle.carry_dots.proofs.Wrote.{does-answer, does-move, tested, settles}
+use Rattle.carry_dots.proofs.Wrote.{does-answer, does-move, spot-tested, settles}
 use Rattle.carry_dots.proofs.tab.Statement.{statement}
 use Rattle.carry_dots.proofs.tab.Tie as tie
 
 spot-of-requires : tie.Need-spot-of-requires
-spot-of-requires c κs = let start = c .before in
+spot-of-requires c κs =
+    let start = c .before in
     (selected-small (start .args .g) (start .args .s) (start .pre .state-ok), omega (arith, start .pre .usable .visible-part))
-
-is-too-large-requires : tie.Need-is-too-large-requires
-is-too-large-requires c κs = search needs
-
-ends-requires : tie.Need-ends-requires
-ends-requires c κs = search needs
 
 returns : tie.Need-returns
 unfolding asks carriedOut
-returns c font = let start = c .before .before .before .before .before .before .before in
+returns c font =
+    let sized = c .before .before .before in
+    let start = sized .before .before .before in
     does-answer (c .ends .ensures)
-    (is-16 (start .args .g) font (start .args .s) Tab refl refl refl refl (tested (start .args .s) (start .args .g) _ _ _ _ true (c .before .before .before .before .before .spot-of .ensures) (c .before .before .is-too-large .ensures) (c .before .if1 .taken)))
+    (is-16 (start .args .g) font (start .args .s) Tab refl refl refl refl
+    (spot-tested _ _ _ _ _ true (sized .before .spot-of .ensures) (sized .cell-now .ensures) (c .before .before .is-too-large .ensures)
+    (c .before .if1 .taken)))
 
-cell-width-requires : tie.Need-cell-width-requires
-cell-width-requires c κs = search needs
+-- the cell does not exceed the range
+fits : (c : tie.Else1) → let a = c .before .before .before .before .before .args in exceeds (a .g) (a .s) ≡ false
+fits c =
+    let sized = c .before .before in
+    spot-tested _ _ _ _ _ false (sized .before .spot-of .ensures) (sized .cell-now .ensures) (c .before .is-too-large .ensures)
+    (c .if1 .left)
 
-cast-tab : tie.Need-cast-tab
-cast-tab c = search needs
+-- so it has room
+room : (c : tie.Else1)
+    → let a = c .before .before .before .before .before .args in
+    Room (a .g) (viewOf (a .g) (a .s)) (widthNow (a .g) (a .s)) (heightNow (a .s))
+room c =
+    let start = c .before .before .before .before .before in
+    view-room (start .args .g) (start .pre .usable) (start .args .s) (start .pre .state-ok) (fits c)
 
 tab-requires : tie.Need-tab-requires
-tab-requires c κs = let start = c .before .before .before .before .before .before .before .before .before in
-    let r = start .pre in (
-      r .usable,
-      (
-        rw (c .before .before .before .before .before .before .before .spot-of .ensures, c .before .before .cell-width .ensures)
-            (view-room (start .args .g) (r .usable) (start .args .s) (r .state-ok) (tested (start .args .s) (start .args .g) _ _ _ _ false (c .before .before .before .before .before .before .before .spot-of .ensures) (c .before .before .before .before .is-too-large .ensures) (c .before .before .before .if1 .left))),
-        r .fits,
-      ),
-    )
+tab-requires c κs =
+    let left = c .before in
+    let sized = left .before .before in
+    let r = sized .before .before .before .pre in
+    (r .usable, (rw (sized .before .spot-of .ensures, sized .cell-now .ensures) (room left), r .fits))
 
 settle-requires : tie.Need-settle-requires
-settle-requires c κs = let start = c .before .before .before .before .before .before .before .before .before .before .before .before in
-    let r = start .pre in
+settle-requires c κs =
+    let moved = c .before .before in
+    let left = moved .before .before in
+    let sized = left .before .before in
+    let start = sized .before .before .before in
+    let g = start .args .g in
     let s = start .args .s in
-    let v = viewOf (start .args .g) s in
-    settles (start .args .g) s (start .args .mem .now) (htOf (start .args .g) v (widthNow s) (heightNow s)) (c .before .before .tab .result .view) r
-    (ht-kept (start .args .g) v (widthNow s) (heightNow s)
-    (view-room (start .args .g) (r .usable) s (r .state-ok) (tested (start .args .s) (start .args .g) _ _ _ _ false (c .before .before .before .before .before .before .before .before .before .before .spot-of .ensures) (c .before .before .before .before .before .before .before .is-too-large .ensures) (c .before .before .before .before .before .before .if1 .left))))
-    ((rw (c .before .before .before .before .before .before .before .before .before .before .spot-of .ensures, c .before .before .before .before .before .cell-width .ensures) at (c .before .before .tab .ensures)) .view)
-
-ends-requires-2 : tie.Need-ends-requires-2
-ends-requires-2 c κs = search needs
-
-same-length : tie.Need-same-length
-same-length c = search needs
+    let v = viewOf g s in
+    settles g s (start .args .mem .now) (htOf g v (widthNow g s) (heightNow s)) (moved .tab .result .view) (start .pre)
+    (ht-kept g v (widthNow g s) (heightNow s) (room left))
+    ((rw (sized .before .spot-of .ensures, sized .cell-now .ensures) at (moved .tab .ensures)) .view)
 
 returns-2 : tie.Need-returns-2
 unfolding asks carriedOut
-returns-2 c font = let start = c .before .before .before .before .before .before .before .before .before .before .before .before .before .before in
+returns-2 c font =
+    let moved = c .before .before .before .before in
+    let left = moved .before .before in
+    let sized = left .before .before in
+    let start = sized .before .before .before in
+    let g = start .args .g in
     let s = start .args .s in
-    does-move s (htOf (start .args .g) (viewOf (start .args .g) s) (widthNow s) (heightNow s))
-    (rw (c .before .before .before .before .before .before .before .before .before .before .before .before .spot-of .ensures, c .before .before .before .before .before .before .before .cell-width .ensures) at (c .before .before .before .before .tab .ensures))
+    let v = viewOf g s in
+    does-move s (htOf g v (widthNow g s) (heightNow s))
+    (rw (sized .before .spot-of .ensures, sized .cell-now .ensures) at (moved .tab .ensures))
     (ends-at (c .ends2 .ensures) (c .before .settle .ensures))
-    (is-10 (start .args .g) font s Tab (record { carried = refl; owner = refl; domain = refl; defined = refl; room = tested (start .args .s) (start .args .g) _ _ _ _ false (c .before .before .before .before .before .before .before .before .before .before .before .before .spot-of .ensures) (c .before .before .before .before .before .before .before .before .before .is-too-large .ensures) (c .before .before .before .before .before .before .before .before .if1 .left) }))
+    (is-10 g font s Tab (record { carried = refl; owner = refl; domain = refl; defined = refl; room = fits left }))
 
 pub tab-spec : {M : Type 1} → statement M
 tab-spec =
     tie.close
     (tie.spec
     spot-of-requires
-    is-too-large-requires
-    ends-requires
+    (λ c κs. c .before .before .pre .usable .glyph-small)
+    (λ c κs. search needs)
+    (λ c κs. search needs)
     returns
-    cell-width-requires
-    cast-tab
     tab-requires
     settle-requires
-    ends-requires-2
-    same-length
+    (λ c κs. search needs)
+    (λ c. search needs)
     returns-2)

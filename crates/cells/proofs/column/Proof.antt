@@ -1,19 +1,29 @@
 -- `cells::column` meets its contract: its calls, one after the other. Assumes nothing.
+use mathlib.Core.Path.{ap}
+use Prim.Native.Nat.{ℕ}
 use borrow.Author.Needs.{needs}
-use Rattle.cells.specs.Columns.{inkColumn}
+use Rattle.laws_bytes.specs.Bytes.{glyphColumn}
+use Rattle.cells.specs.Columns.{tallOf, inkOf, inkColumn}
+use Rattle.cells.proofs.Frames.{placed-byte}
 use Rattle.cells.proofs.column.Statement.{statement}
 use Rattle.cells.proofs.column.Tie as tie
 
 returns : tie.Need-returns
 unfolding inkColumn
 returns c =
+    let put = c .before .before .before in
+    let set = put .before .before in
+    let a = set .before .before .args in
     rw (
       c .before .reversed .ensures,
       c .reversed2 .ensures,
       c .before .before .stretched .ensures,
-      c .before .before .before .placed .ensures,
-      c .before .before .before .before .glyph-column .ensures,
+      put .placed .ensures,
+      put .before .glyph-column .ensures,
+      set .placing .ensures .0,
     )
+    (ap (λ (v : ℕ). inkOf (a .style) (tallOf (a .style .down) v))
+    (placed-byte (a .g) (a .row) (glyphColumn (a .g) (a .font .now) (a .code) (a .w) (a .k))))
 
 pub column-spec : {M : Type 1} → statement M
 column-spec =
@@ -21,6 +31,7 @@ column-spec =
     (tie.spec
     (λ c κs. search needs)
     (λ c κs. search needs)
+    (λ c κs. let e = c .before .placing .ensures in (e .1, e .2))
     (λ c κs. search needs)
     (λ c κs. search needs)
     (λ c κs. search needs)

@@ -1,14 +1,15 @@
--- `cells::placed` meets its contract, by its test. Assumes nothing.
+-- `cells::placed` meets its contract: nothing falls off above. Assumes nothing.
 use borrow.Author.Needs.{needs}
-use borrow.Author.Tests.{eq-eqb, ne-eqb}
+use native.Mathlib.Nat.{mod-eq-of-lt}
+use native.Mathlib.Omega.{arith}
+use Rattle.cells.proofs.Frames.{lift-lt}
 use Rattle.cells.proofs.placed.Statement.{statement}
 use Rattle.cells.proofs.placed.Tie as tie
 
 returns : tie.Need-returns
-returns c = simp (eq-eqb _ _ (c .if1 .taken))
-
-returns-2 : tie.Need-returns-2
-returns-2 c = simp (ne-eqb _ _ (c .if1 .left))
+returns c =
+    let start = c .before .before in
+    mod-eq-of-lt (lift-lt (start .args .v) (start .args .p .down) (start .args .p .up) (start .pre .0) (start .pre .1) (omega arith))
 
 pub placed-spec : {M : Type 1} → statement M
-placed-spec = tie.close (tie.spec (λ c. search needs) returns returns-2)
+placed-spec = tie.close (tie.spec (λ c. search needs) (λ c. search needs) returns)

@@ -10,7 +10,15 @@ returns c = rw (← c .before .before .room-below .ensures, c .before .if1 .take
 
 returns-2 : tie.Need-returns-2
 unfolding lineDown
-returns-2 c = rw (← c .before .before .room-below .ensures, c .before .if1 .left) (c .to2 .ensures)
+returns-2 c =
+    rw (← c .before .before .before .room-below .ensures, c .before .before .if1 .left, c .before .if2 .taken)
+    (c .to2 .ensures)
+
+returns-3 : tie.Need-returns-3
+unfolding lineDown
+returns-3 c =
+    rw (← c .before .before .before .room-below .ensures, c .before .before .if1 .left, c .before .if2 .left)
+    (c .to3 .ensures)
 
 pub line-down-spec : {M : Type 1} → statement M
 line-down-spec =
@@ -21,4 +29,6 @@ line-down-spec =
     (λ c κs. search needs)
     returns
     (λ c κs. search needs)
-    returns-2)
+    (λ c κs. search needs)
+    returns-2
+    returns-3)

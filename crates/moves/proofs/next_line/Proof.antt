@@ -1,15 +1,24 @@
 -- `moves::next_line` meets its contract. Assumes nothing.
 use borrow.Author.Needs.{needs}
-use Rattle.paper.specs.Moves.{nextLine, lineDown}
+use Rattle.paper.specs.Moves.{nextLine}
 use Rattle.moves.proofs.next_line.Statement.{statement}
 use Rattle.moves.proofs.next_line.Tie as tie
 
-line-down-requires : tie.Need-line-down-requires
-line-down-requires c κs = rw (c .to .ensures) (c .before .pre)
-
 returns : tie.Need-returns
-unfolding nextLine lineDown
-returns c = rw (c .before .to .ensures) at (c .line-down .ensures)
+unfolding nextLine
+returns c = rw (← c .before .before .before .room-below .ensures, c .before .before .if1 .taken) (c .to .ensures)
+
+returns-2 : tie.Need-returns-2
+unfolding nextLine
+returns-2 c = rw (← c .before .before .room-below .ensures, c .before .if1 .left) (c .to2 .ensures)
 
 pub next-line-spec : {M : Type 1} → statement M
-next-line-spec = tie.close (tie.spec (λ c κs. search needs) line-down-requires returns)
+next-line-spec =
+    tie.close
+    (tie.spec
+    (λ c κs. search needs)
+    (λ c. search needs)
+    (λ c κs. search needs)
+    returns
+    (λ c κs. search needs)
+    returns-2)

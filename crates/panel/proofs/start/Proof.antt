@@ -1,51 +1,17 @@
--- `panel::start` meets its contract. Assumes nothing.
+-- `panel::start` meets its contract: the call for any module, for this one. Assumes nothing.
 use borrow.Author.Needs.{needs}
-use mathlib.Core.Path.{refl, ap, _∙_}
-use native.Mathlib.Omega.{arith}
-use Rattle.paper.specs.declared.Geometry.{Geometry}
+use mathlib.Core.Path.{refl}
 use Rattle.paper.specs.Panel.{panel}
-use Rattle.paper.specs.Settings.{initialState}
-use Rattle.panel.proofs.Starts.{start-refused, start-accepted}
+use Rattle.laws_state.proofs.Views.{panel-usable}
 use Rattle.panel.proofs.start.Statement.{statement}
 use Rattle.panel.proofs.start.Tie as tie
 
-module-size-requires : tie.Need-module-size-requires
-module-size-requires c κs = search needs
-
-initial-state-requires : tie.Need-initial-state-requires
+start-requires : tie.Need-start-requires
 unfolding panel
-initial-state-requires c κs = rw (c .module-size .ensures) refl
+start-requires c κs = rw (c .before .small .ensures) (panel-usable, refl)
 
 returns : tie.Need-returns
-returns c = start-refused _ _ (c .if1 .taken)
-    (c .before .initial-state .ensures ∙ ap (λ (g : Geometry). initialState g) (c .before .before .module-size .ensures))
-
-erase-requires : tie.Need-erase-requires
-unfolding panel
-erase-requires c κs =
-    let tested = c .before .before in
-    rw (tested .before .before .module-size .ensures)
-    (record { size = tested .if1 .left; small = omega arith }, (omega arith, omega arith))
-
-same-length : tie.Need-same-length
-same-length c = search needs
-
-returns-2 : tie.Need-returns-2
-returns-2 c =
-    let erasing = c .before .before .before .before .before in
-    let tested = erasing .before .before .before in
-    let made = tested .before in
-    let g = made .before .module-size .ensures in
-    start-accepted _ _ _ _ (tested .if1 .left) (made .initial-state .ensures ∙ ap (λ (g : Geometry). initialState g) g)
-    (rw g at (erasing .erase .ensures .1)) (rw g at (erasing .erase .ensures .0))
+returns c = rw (c .before .before .before .before .small .ensures) at (c .before .before .start .ensures)
 
 pub start-spec : {M : Type 1} → statement M
-start-spec =
-    tie.close
-    (tie.spec
-    module-size-requires
-    initial-state-requires
-    returns
-    erase-requires
-    same-length
-    returns-2)
+start-spec = tie.close (tie.spec (λ c κs. search needs) start-requires (λ c. search needs) returns)

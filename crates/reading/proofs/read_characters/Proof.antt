@@ -10,6 +10,7 @@ read-characters-spec =
     tie.close
     (tie.spec
     (λ c κs. tt)
-    (λ c. rw (c .before .match .keys1) (c .more-value .ensures))
+    (λ c κs. tt)
+    (λ c. rw (c .before .before .match .keys1, ← c .before .more-value .ensures) (c .only-if .ensures))
     (λ c. rw (c .match .keys2))
     (λ c. let e = c .match .rest in rw (differs (e .0 .1), differs (e .1))))

@@ -21,11 +21,12 @@ read-first-spec =
     tie.close
     (tie.spec
     (λ c κs. tt)
+    (λ c κs. tt)
     escape
     unit
-    (λ c. c .read-move .ensures ∙ first-move _ (omega arith) (omega arith))
-    (λ c. first-select _ (omega arith) (omega arith))
-    (λ c. first-character _ (omega arith))
-    (λ c. first-unknown _ (omega arith) (inl (omega arith)) (inl (omega arith)) (omega arith) (omega arith))
-    (λ c. first-unknown _ (omega arith) (inr (omega arith)) (inl (omega arith)) (omega arith) (omega arith))
-    (λ c. first-unknown _ (omega arith) (inr (omega arith)) (inr (omega arith)) (omega arith) (omega arith)))
+    (λ c. c .read-move .ensures ∙ first-move _ _ (omega arith) (omega arith))
+    (λ c. c .only-if .ensures ∙ first-select _ _ (omega arith) (omega arith))
+    (λ c. first-character _ _ (omega arith))
+    (λ c. first-unknown _ _ (omega arith) (inl (omega arith)) (inl (omega arith)) (omega arith) (omega arith))
+    (λ c. first-unknown _ _ (omega arith) (inr (omega arith)) (inl (omega arith)) (omega arith) (omega arith))
+    (λ c. first-unknown _ _ (omega arith) (inr (omega arith)) (inr (omega arith)) (omega arith) (omega arith)))

@@ -34,7 +34,7 @@ returns c =
     let f = start .pre .1 in
     drawn-pushed (a .g) (a .p .spans) (a .mem .now) (a .font .now) (a .cell .blanks) (a .cell .style) (a .code) (a .p .view) (f .0)
     (rw (size .columns) at (f .1)) (rw (size .columns) at (f .2))
-    (does-stroke (drawStroke (a .font .now) (a .cell .blanks) (a .cell .style) (a .code) (a .p .view)) (a .p .view)
+    (does-stroke (drawStroke (a .g) (a .font .now) (a .cell .blanks) (a .cell .style) (a .code) (a .p .view)) (a .p .view)
     (rw (placed .inside .ensures, size .columns, size .rows) at (marking .marked .ensures))
     (rw (placed .inside .ensures, size .columns, size .rows) at (drawing .draw .ensures)))
     (rw (size .columns, size .rows) at (pushing .push-left .ensures))

@@ -45,7 +45,7 @@ stretch-requires c κs =
     let k = head .loop .inv in
     let pre = start .pre .0 in
     let fits = pre .1 .1 .1 in
-    let room = within-room (a .g) (a .p .view) (head .loop .q .view) (cellWidth (a .w) (a .style)) (cellHeight (a .style)) (pre .1 .0) (k .within) in
+    let room = within-room (a .g) (a .p .view) (head .loop .q .view) (cellWidth (a .g) (a .w) (a .style)) (cellHeight (a .style)) (pre .1 .0) (k .within) in
     rw (sized .cell-of .ensures) (
       (pre .0, (room, (pre .1 .1 .0, record { size = k .size ∙ fits .size; small = fits .small }))),
       (omega arith, omega arith, countable (c .before .before .before)),

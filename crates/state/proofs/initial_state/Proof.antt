@@ -7,10 +7,10 @@ returns : tie.Need-returns
 unfolding initialState
 returns c =
     rw (
-      c .before .before .before .pre,
       c .before .before .no-window .ensures,
       c .before .initial-settings .ensures,
       c .top-left .ensures,
+      c .before .before .before .pre,
     )
 
 pub initial-state-spec : {M : Type 1} → statement M

@@ -16,7 +16,7 @@ returns : tie.Need-returns
 unfolding characterOf
 returns c =
     let a = c .before .before .before .before .before .before .before .before .args in
-    rw (le-leb (a .p .view .x + cellWidth (a .cell .blanks) (a .cell .style)) (a .p .view .width) (omega arith))
+    rw (le-leb (a .p .view .x + cellWidth (a .g) (a .cell .blanks) (a .cell .style)) (a .p .view .width) (omega arith))
     (c .before .before .draw-tab .ensures)
 
 draw-tab-requires-2 : tie.Need-draw-tab-requires-2
@@ -34,7 +34,7 @@ returns-2 c =
     let start = tested .before .before .before .before .before in
     let a = start .args in
     let size = start .pre .1 .1 .0 .cell in
-    let width = cellWidth (a .cell .blanks) (a .cell .style) in
+    let width = cellWidth (a .g) (a .cell .blanks) (a .cell .style) in
     rw (lt-leb (a .p .view .x + width) (a .p .view .width) (omega arith), eq-eqb _ _ (tested .if2 .taken))
     (does-after (htOf (a .g) (a .p .view) width (cellHeight (a .cell .style)))
     (drawTab (a .g) (a .font .now) (a .cell .blanks) (a .cell .style) (a .code))
@@ -57,7 +57,7 @@ returns-3 c =
     let start = tested .before .before .before .before .before in
     let a = start .args in
     let size = start .pre .1 .1 .0 .cell in
-    let width = cellWidth (a .cell .blanks) (a .cell .style) in
+    let width = cellWidth (a .g) (a .cell .blanks) (a .cell .style) in
     rw (lt-leb (a .p .view .x + width) (a .p .view .width) (omega arith), ne-eqb _ _ (tested .if2 .left))
     (does-after (blankTab (a .g) (a .cell .blanks) (a .cell .style) (a .p .view))
     (drawTab (a .g) (a .font .now) (a .cell .blanks) (a .cell .style) (a .code))

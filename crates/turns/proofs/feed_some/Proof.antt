@@ -5,25 +5,25 @@ use Rattle.carry_state.proofs.Facts.{selected-small}
 use Rattle.turns.proofs.feed_some.Statement.{statement}
 use Rattle.turns.proofs.feed_some.Tie as tie
 
-is-drawn-requires : tie.Need-is-drawn-requires
-is-drawn-requires c κs =
-    let start = c .before .before .before .before .before in
+is-light-requires : tie.Need-is-light-requires
+is-light-requires c κs =
+    let start = c .before .before .before .before in
     let r = start .pre .ready in
-    (selected-small (start .args .g) (start .args .f .state) (r .state-ok), omega (arith, r .usable .visible-part))
+    let u = r .usable in
+    (selected-small (start .args .g) (start .args .f .state) (r .state-ok), omega (arith, u .visible-part), u .glyph-small, start .pre .inside)
 
-feed-characters-requires : tie.Need-feed-characters-requires
-feed-characters-requires c κs =
+feed-light-requires : tie.Need-feed-light-requires
+feed-light-requires c κs =
     let testing = c .before .before in
-    let start = testing .before .before .before .before .before .before in
-    (start .pre, testing .is-drawn .ensures (c .before .if1 .taken))
+    let start = testing .before .before .before .before .before in
+    (start .pre, testing .is-light .ensures (c .before .if1 .taken))
 
 pub feed-some-spec : {M : Type 1} → statement M
 feed-some-spec =
     tie.close
     (tie.spec
-    (λ c. search needs)
-    is-drawn-requires
-    feed-characters-requires
+    is-light-requires
+    feed-light-requires
     (λ c. search needs)
     (λ c. search needs)
     (λ c. search needs)

@@ -1,0 +1,68 @@
+-- What start and refresh give, refused and not. Assumes nothing.
+use mathlib.Core.Path.{_≡_, ap, ap₂, _∙_}
+use mathlib.Core.Bool.{true, false}
+use mathlib.Core.List.{List}
+use Prim.Native.Nat.{ℕ, _<_, _≤_}
+use native.Mathlib.Nat.{mul-le-mul-left}
+use native.Mathlib.Omega.{arith}
+use lib.ListN.{length}
+use borrow.Author.Tests.{eq-eqb, ne-eqb}
+use Rattle.paper.specs.declared.Module.{Module}
+use Rattle.paper.specs.declared.Refusal.the-variants.{Accepted, MemoryLength, GlassLength, BrokenState}
+use Rattle.paper.specs.declared.Span.{Span}
+use Rattle.paper.specs.declared.State.{State}
+use Rattle.paper.specs.Panel.{memoryLength, glassLength}
+use Rattle.paper.specs.Strokes.{markRect, refreshed, shownAll}
+use Rattle.paper.specs.Settings.{initialState, withSpans}
+use Rattle.paper.specs.Bounds.{accepted}
+use Rattle.paper.specs.Cells.{memoryRect}
+use Rattle.paper.specs.Calls.{isAccepted, answer, startRefusal, startCall, refreshRefusal, refreshing, emptied, refreshCall}
+use Rattle.laws_memory.specs.Rectangles.{cleared}
+use Rattle.laws_state.specs.Room.{Usable}
+use Rattle.laws_state.specs.Told.{started}
+
+-- a memory of the wrong length is handed back as it was, with the initial state
+pub start-refused : (g : Module) (m : List ℕ) (s : State) → (length m ≡ memoryLength g → ⊥) → s ≡ initialState g
+    → started (answer MemoryLength s) m ≡ startCall g m
+unfolding startCall startRefusal isAccepted
+start-refused g m s h e = rw (ne-eqb (length m) (memoryLength g) h, e)
+
+-- a memory of the right length is zeroed, and all of it is marked
+pub start-accepted : (g : Module) (m m′ : List ℕ) (t : State) (ps : List Span) → length m ≡ memoryLength g → t ≡ initialState g
+    → ps ≡ markRect (memoryRect g) (t .spans) → m′ ≡ cleared g (memoryRect g) m
+    → started (answer Accepted (withSpans t ps)) m′ ≡ startCall g m
+unfolding startCall startRefusal isAccepted cleared
+start-accepted g m m′ t ps l e k c =
+    rw (eq-eqb (length m) (memoryLength g) l)
+    (ap₂ (λ (s : State) (x : List ℕ). started (answer Accepted s) x)
+    (ap₂ (λ (s : State) (qs : List Span). withSpans s qs) e
+    (k ∙ ap (λ (s : State). markRect (memoryRect g) (s .spans)) e)) c)
+
+module _ (g : Module) (s : State) (m glass : List ℕ) where
+  -- 1
+  pub refresh-memory : (length m ≡ memoryLength g → ⊥) → refreshing MemoryLength s 0 glass ≡ refreshCall g s m glass
+  unfolding refreshCall refreshRefusal isAccepted
+  refresh-memory h = rw (ne-eqb (length m) (memoryLength g) h)
+
+  -- 3
+  pub refresh-glass : length m ≡ memoryLength g → (length glass ≡ glassLength g → ⊥) → refreshing GlassLength s 0 glass ≡ refreshCall g s m glass
+  unfolding refreshCall refreshRefusal isAccepted
+  refresh-glass l h = rw (eq-eqb (length m) (memoryLength g) l, ne-eqb (length glass) (glassLength g) h)
+
+  -- 8
+  pub refresh-broken : length m ≡ memoryLength g → length glass ≡ glassLength g → accepted g s ≡ false
+      → refreshing BrokenState s 0 glass ≡ refreshCall g s m glass
+  unfolding refreshCall refreshRefusal isAccepted
+  refresh-broken l h a = rw (eq-eqb (length m) (memoryLength g) l, eq-eqb (length glass) (glassLength g) h, a)
+
+  -- none of these
+  pub refresh-accepted : length m ≡ memoryLength g → length glass ≡ glassLength g → accepted g s ≡ true
+      → refreshing Accepted (emptied g s) (shownAll g (s .spans)) (refreshed g m (s .spans) glass) ≡ refreshCall g s m glass
+  unfolding refreshCall refreshRefusal isAccepted
+  refresh-accepted l h a = rw (eq-eqb (length m) (memoryLength g) l, eq-eqb (length glass) (glassLength g) h, a)
+
+-- a glass is no longer than the memory
+pub glass-small : (g : Module) → Usable g → glassLength g ≤ 65536
+glass-small g u = omega (arith, u .small, mul-le-mul-left (g .rows) (visible-le (u .visible-part))) where
+  visible-le : g .visible < g .columns → g .visible ≤ g .columns
+  visible-le l = omega arith

@@ -1,0 +1,69 @@
+// Start and refresh, for any usable module: what is refused, in its order, and the memory and the glass that each leaves.
+// It may use modules for the lengths, state for the initial one, accept for the state's test, and dots for memory and glass.
+use paper::Answer;
+use paper::Module;
+use paper::Refreshed;
+use paper::Refusal;
+use paper::Span;
+use paper::State;
+ghost use mathlib.Core.Path.{_≡_};
+ghost use mathlib.Core.List.{[]};
+ghost use Rattle.paper.specs.Calls.{startCall, refreshing, refreshCall};
+ghost use Rattle.laws_state.specs.Room.{Usable};
+ghost use Rattle.laws_state.specs.Told.{started, refreshed};
+
+// The initial state, the memory zeroed and all of it marked as written. 1: the memory has not its length.
+pub fn start(g: Module, mem: &mut [u8]) -> Answer
+    requires { ⌜ Usable g × (g .rows ≡ 2) ⌝ }
+    ensures { λ r. ⌜ started r (now (mem .exit)) ≡ startCall g (now (mem .entry)) ⌝ }
+{
+    let t = state::initial_state(g);
+    if mem.len() != modules::memory_length(g) {
+        return Answer {
+            refusal: Refusal::MemoryLength,
+            state: t,
+        };
+    }
+    let none = t.spans;
+    let spans = dots::erase(g, mem, none);
+    let state = State { spans, ..t };
+    Answer {
+        refusal: Refusal::Accepted,
+        state,
+    }
+}
+
+// A refresh answered so.
+fn moves(refusal: Refusal, state: State, moved: usize) -> Refreshed
+    ensures { λ r. ⌜ r ≡ refreshing refusal state moved [] .answer ⌝ }
+{
+    Refreshed {
+        refusal,
+        state,
+        moved,
+    }
+}
+
+// Brings the glass in step. 1: the memory has not its length; 3: the glass has not; 8: the state breaks a bound.
+pub fn refresh(g: Module, mem: &[u8], glass: &mut [u8], s: State) -> Refreshed
+    requires { ⌜ Usable g × (g .rows ≡ 2) ⌝ }
+    ensures { λ r. ⌜ refreshed r (now (glass .exit)) ≡ refreshCall g s (now (mem .entry)) (now (glass .entry)) ⌝ }
+{
+    if mem.len() != modules::memory_length(g) {
+        return moves(Refusal::MemoryLength, s, 0);
+    }
+    if glass.len() != modules::glass_length(g) {
+        return moves(Refusal::GlassLength, s, 0);
+    }
+    if accept::is_accepted(g, s) {
+        let spans = s.spans;
+        let moved = dots::refresh(g, mem, glass, spans);
+        let nothing = Span { first: 0, end: 0 };
+        let state = State {
+            spans: [nothing, nothing],
+            ..s
+        };
+        return moves(Refusal::Accepted, state, moved);
+    }
+    moves(Refusal::BrokenState, s, 0)
+}
