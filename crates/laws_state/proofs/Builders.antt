@@ -134,7 +134,9 @@ module _ (g : Module) (s : State) (p : Parts g s) where
   -- a window defined, or moved in
   pub defined-parts : (k : ℕ) (w : Window) → windowOk g w ≡ true → isDefined w ≡ true → Parts g (defined s k w)
   defined-parts k w h d =
-      parts (p .settings) (windows-set g (s .windows) (k - 1) w (p .windows) h) (p .base) (selectable-set (s .windows) (k - 1) (s .selected) w d (p .selected)) (hold-set g (s .windows) (s .selected) (k - 1) w (s .hold) d (p .hold)) (p .half) (p .spans)
+      parts (p .settings) (windows-set g (s .windows) (k - 1) w (p .windows) h) (p .base)
+      (selectable-set (s .windows) (k - 1) (s .selected) w d (p .selected)) (hold-set g (s .windows) (s .selected) (k - 1) w (s .hold) d (p .hold))
+      (p .half) (p .spans)
 
   -- a window taken away while nothing is held, j then selected
   without-parts : (k j : ℕ) → isHeld (s .hold) ≡ false → selectable (set (s .windows) (k - 1) noWindow) j ≡ true

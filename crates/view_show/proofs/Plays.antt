@@ -16,7 +16,11 @@ use Rattle.view_show.specs.Shown.{Shows, fedFresh, shownFresh}
 abbrev counts : Fed → Refreshed → Bool → Counts
 counts f r half = record { carried = f .carried; answered = f .answered; moved = r .moved; half = half }
 
-pub plays : (font m stream glass : List ℕ) {m₁ m₂ glass′ : List ℕ} {a : Answer} {f : Fed} {r : Refreshed} (half : Bool) → started a m₁ ≡ startCall panel m → fed f m₂ ≡ feedCall panel font (a .state) m₁ stream → refreshed r glass′ ≡ refreshCall panel (f .state) m₂ glass → Shows (fedFresh panel font m stream) (shownFresh panel font m stream glass) (counts f r half) glass′
+pub plays : (font m stream glass : List ℕ) {m₁ m₂ glass′ : List ℕ} {a : Answer} {f : Fed} {r : Refreshed} (half : Bool)
+    → started a m₁ ≡ startCall panel m
+    → fed f m₂ ≡ feedCall panel font (a .state) m₁ stream
+    → refreshed r glass′ ≡ refreshCall panel (f .state) m₂ glass
+    → Shows (fedFresh panel font m stream) (shownFresh panel font m stream glass) (counts f r half) glass′
 unfolding fedFresh shownFresh
 plays font m stream glass {m₂ = m₂} {glass′ = glass′} {f = f} {r = r} half begun taken brought =
     let fed-is : fed f m₂ ≡ fedFresh panel font m stream =

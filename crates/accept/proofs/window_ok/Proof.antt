@@ -10,7 +10,10 @@ returns c = rw (← c .before .is-blank .ensures, c .if1 .taken)
 
 returns-2 : tie.Need-returns-2
 unfolding windowOk
-returns-2 c = rw (← c .before .before .before .before .before .before .is-blank .ensures, c .before .before .before .before .before .if1 .left, c .before .before .before .fits2 .ensures, c .cursor-ok .ensures)
+returns-2 c =
+    let sized = c .before .before .before in
+    let tested = sized .before .before in
+    rw (← tested .before .is-blank .ensures, tested .if1 .left, sized .fits2 .ensures, c .cursor-ok .ensures)
 
 pub window-ok-spec : {M : Type 1} → statement M
 window-ok-spec =

@@ -48,17 +48,23 @@ returns-2 c = rw (c .before .before .before .before .before .before .before .bef
 
 returns-3 : tie.Need-returns-3
 unfolding takeOf
-returns-3 c = let start = c .before .before .before .before .before .before .before .before .before .before .before .before .before .before .before in
-    rw (c .before .before .before .before .before .before .before .before .before .before .before .r3 .given .1)
-    (does-picture (start .args .s) _ Unfinished _ _ _ (rw (c .before .before .before .before .before .before .before .before .before .spot-of .ensures) at (c .before .before .before .before .before .before .image-byte .ensures))
-    (c .ends2 .ensures))
+returns-3 c =
+    let stored = c .before .before .before .before .before .before in
+    let found = stored .before .before .before in
+    let told = found .before .before in
+    let start = told .before .before .before .before in
+    rw (told .r3 .given .1)
+    (does-picture (start .args .s) _ Unfinished _ _ _ (rw (found .spot-of .ensures) at (stored .image-byte .ensures)) (c .ends2 .ensures))
 
 returns-4 : tie.Need-returns-4
 unfolding takeOf
-returns-4 c = let start = c .before .before .before .before .before .before .before .before .before .before .before .before .before .before .before in
-    rw (c .before .before .before .before .before .before .before .before .before .before .before .r4 .given .1)
-    (does-picture (start .args .s) Nothing Carried _ _ _ (rw (c .before .before .before .before .before .before .before .before .before .spot-of2 .ensures) at (c .before .before .before .before .before .before .image-byte2 .ensures))
-    (c .ends3 .ensures))
+returns-4 c =
+    let stored = c .before .before .before .before .before .before in
+    let found = stored .before .before .before in
+    let told = found .before .before in
+    let start = told .before .before .before .before in
+    rw (told .r4 .given .1)
+    (does-picture (start .args .s) Nothing Carried _ _ _ (rw (found .spot-of2 .ensures) at (stored .image-byte2 .ensures)) (c .ends3 .ensures))
 
 returns-5 : tie.Need-returns-5
 unfolding takeOf

@@ -1,14 +1,26 @@
 -- `carry_state::set` meets its contract: 14, then 15, then 11. Assumes nothing.
 use borrow.Author.Needs.{needs}
-use mathlib.Core.Path.{refl, sym, ap, ap₂, _∙_}
-use mathlib.Core.Bool.{not, _&&_}
+use mathlib.Core.Path.{_≡_, refl, sym, ap, ap₂, _∙_}
+use mathlib.Core.Bool.{false, not, _&&_}
 use Rattle.paper.specs.declared.Command.the-variants.{Set}
-use Rattle.paper.specs.Carry.{asks, carriedOut}
+use Rattle.paper.specs.Carry.{isHeld, notCarriedValue, isWrite, asks, carriedOut}
 use Rattle.carry_state.proofs.Answers.{is-14, is-15, is-11, is-10, says, ends-at}
 use Rattle.paper.specs.declared.Settings.{Settings}
 use Rattle.paper.specs.Settings.{withSettings}
 use Rattle.carry_state.proofs.set.Statement.{statement}
 use Rattle.carry_state.proofs.set.Tie as tie
+
+-- ---- what the tests have found on the way
+
+-- the value is one that is carried
+is-carried : (c : tie.Else1) → let a = c .before .before .args in notCarriedValue (a .key) (a .n) ≡ false
+is-carried c = sym (c .before .not-carried-value .ensures) ∙ c .if1 .left
+
+-- and it is no owner's command while a window is held
+is-free : (c : tie.Else2) → let a = c .before .before .before .before .args in (isWrite (a .key) && isHeld (a .s .hold)) ≡ false
+is-free c = sym (ap₂ _&&_ (c .before .is-write .ensures) (c .before .before .before .before .pre)) ∙ c .if2 .left
+
+-- ---- what each way gives
 
 not-carried-value-requires : tie.Need-not-carried-value-requires
 not-carried-value-requires c κs = search needs
@@ -28,9 +40,12 @@ ends-requires-2 c κs = search needs
 
 returns-2 : tie.Need-returns-2
 unfolding asks carriedOut
-returns-2 c font = says (c .ends2 .ensures)
-    (is-15 _ font _ (Set _ _) (sym (c .before .before .before .before .not-carried-value .ensures) ∙ c .before .before .before .if1 .left)
-    (sym (ap₂ _&&_ (c .before .before .is-write .ensures) (c .before .before .before .before .before .pre)) ∙ c .before .if2 .taken))
+returns-2 c font =
+    let tested = c .before in
+    let left = tested .before .before in
+    says (c .ends2 .ensures)
+    (is-15 _ font _ (Set _ _) (is-carried left)
+    (sym (ap₂ _&&_ (tested .before .is-write .ensures) (left .before .before .pre)) ∙ tested .if2 .taken))
 
 in-domain-requires : tie.Need-in-domain-requires
 in-domain-requires c κs = search needs
@@ -43,14 +58,18 @@ ends-requires-3 c κs = search needs
 
 returns-3 : tie.Need-returns-3
 unfolding asks carriedOut
-returns-3 c font = says
-    (ends-at (c .ends3 .ensures)
-    (ap (λ (v : Settings). withSettings (c .before .before .before .before .before .before .before .before .before .before .before .before .args .s) v) (c .before .before .before .before .with-setting .ensures)))
+returns-3 c font =
+    let put = c .before .before .before .before in
+    let tested = put .before .before in
+    let left = tested .before .before in
+    let a = left .before .before .before .before .args in
+    says
+    (ends-at (c .ends3 .ensures) (ap (λ (v : Settings). withSettings (a .s) v) (put .with-setting .ensures)))
     (is-10 _ font _ (Set _ _)
     (record {
-      carried = sym (c .before .before .before .before .before .before .before .before .before .before .before .not-carried-value .ensures) ∙ c .before .before .before .before .before .before .before .before .before .before .if1 .left;
-      owner = sym (ap₂ _&&_ (c .before .before .before .before .before .before .before .before .before .is-write .ensures) (c .before .before .before .before .before .before .before .before .before .before .before .before .pre)) ∙ c .before .before .before .before .before .before .before .before .if2 .left;
-      domain = ap not (sym (c .before .before .before .before .before .before .before .in-domain .ensures) ∙ c .before .before .before .before .before .before .if3 .taken);
+      carried = is-carried (left .before .before);
+      owner = is-free left;
+      domain = ap not (sym (tested .before .in-domain .ensures) ∙ tested .if3 .taken);
       defined = refl;
       room = refl;
     }))
@@ -60,10 +79,12 @@ ends-requires-4 c κs = search needs
 
 returns-4 : tie.Need-returns-4
 unfolding asks carriedOut
-returns-4 c font = says (c .ends4 .ensures)
-    (is-11 _ font _ (Set _ _) (sym (c .before .before .before .before .before .before .not-carried-value .ensures) ∙ c .before .before .before .before .before .if1 .left)
-    (sym (ap₂ _&&_ (c .before .before .before .before .is-write .ensures) (c .before .before .before .before .before .before .before .pre)) ∙ c .before .before .before .if2 .left)
-    (ap not (sym (c .before .before .in-domain .ensures) ∙ c .before .if3 .left)))
+returns-4 c font =
+    let tested = c .before in
+    let left = tested .before .before in
+    says (c .ends4 .ensures)
+    (is-11 _ font _ (Set _ _) (is-carried (left .before .before)) (is-free left)
+    (ap not (sym (tested .before .in-domain .ensures) ∙ tested .if3 .left)))
 
 pub set-spec : {M : Type 1} → statement M
 set-spec =

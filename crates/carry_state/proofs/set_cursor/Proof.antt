@@ -24,16 +24,18 @@ ends-requires c κs = search needs
 
 returns : tie.Need-returns
 unfolding asks carriedOut
-returns c font = says
+returns c font =
+    let found = c .before .before in
+    let tested = found .before in
+    let a = tested .before .before .args in
+    says
     (ends-at (c .ends .ensures)
-    (c .before .at-cursor .ensures
-    ∙ ap (λ (k : Cursor). atCursor (c .before .before .before .before .before .args .s) (cursor (c .before .before .before .before .before .args .x) (c .before .before .before .before .before .args .y) (k .mode)))
-    (c .before .before .cursor-of .ensures)))
+    (c .before .at-cursor .ensures ∙ ap (λ (k : Cursor). atCursor (a .s) (cursor (a .x) (a .y) (k .mode))) (found .cursor-of .ensures)))
     (is-10 _ font _ (CursorSet _ _)
     (record {
       carried = refl;
       owner = refl;
-      domain = ap not (sym (c .before .before .before .before .inside-window .ensures) ∙ c .before .before .before .if1 .taken);
+      domain = ap not (sym (tested .before .inside-window .ensures) ∙ tested .if1 .taken);
       defined = refl;
       room = refl;
     }))

@@ -1,6 +1,6 @@
 -- `runs::image_bytes` meets its contract. The loop's invariant: what is left gives what the whole run gives. Assumes nothing.
 use mathlib.Core.Path.{_∙_}
-use Prim.Native.Nat.{_+_, _-_, _<_}
+use Prim.Native.Nat.{_+_, _-_, _<_, _≤_}
 use native.Mathlib.Omega.{arith}
 use lib.ListN.{length}
 use borrow.Author.Tests.{eq-eqb, ne-eqb}
@@ -36,40 +36,46 @@ countable c = omega arith
 inside : (c : tie.In-loop Inv-loop μ-loop) → c .before .loop .i < length (c .before .before .before .before .before .args .piece .now)
 inside c = omega arith
 
-filled-to-requires : tie.Need-filled-to-requires Inv-loop μ-loop
-filled-to-requires c κs =
-    let placed = c .before in
-    let storing = c .before .before .before .before in
-    let head = c .before .before .before .before .before .before .before .before in
-    let start = c .before .before .before .before .before .before .before .before .before .before .before .before in
-    let a = start .args in
+-- the place after a byte stored: not before the first, and in one of the image's rows
+ahead : (c : tie.After-place-after Inv-loop μ-loop)
+    → let a = c .before .before .before .before .before .before .before .before .before .before .before .args in
+    let t = c .place-after .result in
+    (a .column ≤ t .column) × (a .column + a .row ≤ t .column + t .row) × (t .row < a .height)
+ahead c =
+    let storing = c .before .before .before in
+    let turn = storing .before .before .before in
+    let start = turn .before .before .before .before .before in
     let two = start .pre .1 .2 in
-    let k = head .loop .inv in
-    let on = next-on (a .g) (a .p) (a .style) (a .width) (a .height) (a .column) (a .row) (a .mem .now) (a .piece .now) (a .from) two (head .loop .mem) (head .loop .x) (head .loop .y) (head .loop .i) k (inside (c .before .before .before .before .before .before .before)) (placed .place-after .result) (placed .place-after .ensures) _ (storing .store .ensures) in
-    let beyond = next-beyond (a .g) (a .p) (a .style) (a .width) (a .height) (a .column) (a .row) (a .mem .now) (a .piece .now) (a .from) two (head .loop .mem) (head .loop .x) (head .loop .y) (head .loop .i) k (inside (c .before .before .before .before .before .before .before)) (placed .place-after .result) (placed .place-after .ensures) _ (storing .store .ensures) in
-    let down = next-down (a .g) (a .p) (a .style) (a .width) (a .height) (a .column) (a .row) (a .mem .now) (a .piece .now) (a .from) two (head .loop .mem) (head .loop .x) (head .loop .y) (head .loop .i) k (inside (c .before .before .before .before .before .before .before)) (placed .place-after .result) (placed .place-after .ensures) _ (storing .store .ensures) in
-    (omega arith, (omega arith, omega arith, on, beyond))
+    let k = turn .before .loop .inv in
+    let l = inside turn in
+    let placed = c .place-after .ensures in
+    let stored = storing .store .ensures in (
+      next-on _ _ _ _ _ _ _ _ _ _ two _ _ _ _ k l _ placed _ stored,
+      next-beyond _ _ _ _ _ _ _ _ _ _ two _ _ _ _ k l _ placed _ stored,
+      next-down _ _ _ _ _ _ _ _ _ _ two _ _ _ _ k l _ placed _ stored,
+    )
+
+filled-to-requires : tie.Need-filled-to-requires Inv-loop μ-loop
+filled-to-requires c κs = let f = ahead (c .before) in (omega (arith, f), (omega (arith, f), omega (arith, f), f .0, f .1))
 
 returns : tie.Need-returns Inv-loop μ-loop
 returns c =
     let placed = c .before .before in
-    let storing = c .before .before .before .before .before in
-    let head = c .before .before .before .before .before .before .before .before .before in
-    let start = c .before .before .before .before .before .before .before .before .before .before .before .before .before in
-    let a = start .args in
+    let storing = placed .before .before .before in
+    let turn = storing .before .before .before in
+    let start = turn .before .before .before .before .before in
     rw (c .filled-to .ensures)
-    (filling-whole (a .g) (a .p) (a .style) (a .width) (a .height) (a .column) (a .row) (a .mem .now) (a .piece .now) (a .from) (start .pre .1 .2) (head .loop .mem) (head .loop .x) (head .loop .y) (head .loop .i) (head .loop .inv) (inside (c .before .before .before .before .before .before .before .before))
-    (placed .place-after .result) (placed .place-after .ensures) _ (storing .store .ensures) (eq-eqb _ _ (c .before .if1 .taken)))
+    (filling-whole _ _ _ _ _ _ _ _ _ _ (start .pre .1 .2) _ _ _ _ (turn .before .loop .inv) (inside turn)
+    _ (placed .place-after .ensures) _ (storing .store .ensures) (eq-eqb _ _ (c .before .if1 .taken)))
 
 loop-again : tie.Need-loop-again Inv-loop μ-loop
 loop-again c =
     let placed = c .before in
-    let storing = c .before .before .before .before in
-    let head = c .before .before .before .before .before .before .before .before in
-    let start = c .before .before .before .before .before .before .before .before .before .before .before .before in
-    let a = start .args in
-    filling-next (a .g) (a .p) (a .style) (a .width) (a .height) (a .column) (a .row) (a .mem .now) (a .piece .now) (a .from) (start .pre .1 .2) (head .loop .mem) (head .loop .x) (head .loop .y) (head .loop .i) (head .loop .inv) (inside (c .before .before .before .before .before .before .before))
-    (placed .place-after .result) (placed .place-after .ensures) _ (storing .store .ensures) (storing .store .kept .1 .0) (ne-eqb _ _ (c .if1 .left))
+    let storing = placed .before .before .before in
+    let turn = storing .before .before .before in
+    let start = turn .before .before .before .before .before in
+    filling-next _ _ _ _ _ _ _ _ _ _ (start .pre .1 .2) _ _ _ _ (turn .before .loop .inv) (inside turn)
+    _ (placed .place-after .ensures) _ (storing .store .ensures) (storing .store .kept .1 .0) (ne-eqb _ _ (c .if1 .left))
 
 filled-to-requires-2 : tie.Need-filled-to-requires-2 Inv-loop μ-loop
 filled-to-requires-2 c κs =
@@ -79,10 +85,8 @@ filled-to-requires-2 c κs =
 returns-2 : tie.Need-returns-2 Inv-loop μ-loop
 returns-2 c =
     let head = c .before .before in
-    let start = c .before .before .before .before .before .before in
-    let a = start .args in
-    rw (c .filled-to2 .ensures)
-    (filling-end (a .g) (a .p) (a .style) (a .width) (a .height) (a .column) (a .row) (a .mem .now) (a .piece .now) (a .from) (head .loop .mem) (head .loop .x) (head .loop .y) (head .loop .i) (head .loop .inv) (start .pre .1 .3) (omega arith))
+    let start = head .before .before .before .before in
+    rw (c .filled-to2 .ensures) (filling-end _ _ _ _ _ _ _ _ _ _ _ _ _ _ (head .loop .inv) (start .pre .1 .3) (omega arith))
 
 pub image-bytes-spec : {M : Type 1} → statement M
 image-bytes-spec =

@@ -29,18 +29,21 @@ add-t22 c =
 
 returns : tie.Need-returns
 returns c =
-    let start = c .before .before .before .before .before .before .before .before .before .before .before .before .before .before in
+    let taken = c .before .before .before .before .before .before .before in
+    let gathering = taken .before .before in
+    let start = gathering .before .before .before .before .before in
     let a = start .args in
     let due = start .pre in
-    let gathered = c .before .before .before .before .before .before .before .before .before .gather .ensures in
+    let r = gathering .gather .result in
+    let gathered = gathering .gather .ensures in
     record {
       some = gathered .0;
       end = gathered .1;
       reached =
-          rw (counted-by (a .g) (a .f) (c .before .before .before .before .before .before .before .take .result) (a .mem .now) _ (takeOf (a .g) (a .font .now) (a .f .state) (c .before .before .before .before .before .before .before .before .before .gather .result .reading)) _ _ (c .before .before .before .before .before .before .before .take .ensures)
-          (c .before .before .before .carried-by .ensures) (c .before .answered-by .ensures))
-          (taken-reached (a .g) (a .font .now) (a .f .refusal) (a .f .carried) (a .f .answered) (a .mem .now) (a .f .state) (a .f .outcome) (a .piece .now) (a .i)
-          (c .before .before .before .before .before .before .before .before .before .gather .result .at) (due .inside) (gathered .0) (gathered .1) (gathered .2));
+          rw (counted-by (a .g) (a .f) (taken .take .result) (a .mem .now) _ (takeOf (a .g) (a .font .now) (a .f .state) (r .reading)) _ _
+          (taken .take .ensures) (c .before .before .before .carried-by .ensures) (c .before .answered-by .ensures))
+          (taken-reached (a .g) (a .font .now) (a .f .refusal) (a .f .carried) (a .f .answered) (a .mem .now) (a .f .state) (a .f .outcome)
+          (a .piece .now) (a .i) (r .at) (due .inside) (gathered .0) (gathered .1) (gathered .2));
     }
 
 pub feed-command-spec : {M : Type 1} → statement M

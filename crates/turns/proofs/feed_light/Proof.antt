@@ -1,11 +1,19 @@
 -- `turns::feed_light` meets its contract. The loop's invariant: all so far is in the spot and the style. Assumes nothing.
 use borrow.Author.Needs.{needs}
-use mathlib.Core.Path.{sym, _∙_}
-use Prim.Native.Nat.{_-_, _<_}
+use mathlib.Core.Path.{_≡_, sym, _∙_}
+use mathlib.Core.Bool.{true}
+use Prim.Native.Nat.{_+_, _-_, _<_, _≤_}
 use native.Mathlib.Omega.{arith}
 use lib.ListN.{length, length-drop}
 use borrow.Author.Tests.{not-true, not-false}
+use Rattle.paper.specs.declared.Outcome.the-variants.{Carried}
+use Rattle.paper.specs.Bounds.{accepted}
+use Rattle.paper.specs.Cells.{cellWidth, cellHeight}
+use Rattle.laws_memory.specs.Rectangles.{Fits}
+use Rattle.laws_state.specs.Room.{Room}
 use Rattle.carry_state.proofs.Facts.{selected-small}
+use Rattle.strides.specs.Strides.{isStyling}
+use Rattle.turns.specs.Turns.{onDesk}
 use Rattle.turns.proofs.Turns.{settles-within}
 use Rattle.turns.proofs.Desk.{desk-room, desk-inked}
 use Rattle.turns.proofs.Light.{Lit, lit-begin, lit-accepted, lit-counts, lit-characters, lit-move, lit-style, light-some, light-style, style-whole}
@@ -19,9 +27,102 @@ Inv-loop g mem₀ font piece f from w range p₀ style₀ carried₀ outcome₀ 
 abbrev μ-loop : tie.MeasureT-loop
 μ-loop g mem₀ font piece f from w range p₀ style₀ carried₀ outcome₀ i₀ mem p style carried outcome i = length piece - i
 
+-- ---- what holds at each turn of the loop
+
+-- where it all began
+abbrev begun : tie.At-loop Inv-loop μ-loop → tie.Start Inv-loop μ-loop
+begun h = h .before .before .before .before .before .before .before .before .before
+
 -- a piece's length is one that code can count
-len-small : (c : tie.In-loop Inv-loop μ-loop) → length (c .before .before .before .before .before .before .before .before .before .before .args .piece .now) < 18446744073709551616
+len-small : (c : tie.In-loop Inv-loop μ-loop) → length (begun (c .before) .args .piece .now) < 18446744073709551616
 len-small c = omega arith
+
+-- the state that it would be settled to is accepted
+ok : (h : tie.At-loop Inv-loop μ-loop)
+    → let a = begun h .args in accepted (a .g) (onDesk (a .f .state) (h .loop .style) (h .loop .p)) ≡ true
+ok h =
+    let start = begun h in
+    let r = start .pre .0 .ready in
+    lit-accepted (r .usable) (start .pre .1 .free) (h .loop .inv) (r .state-ok)
+
+-- a cell has room at the spot
+room : (h : tie.At-loop Inv-loop μ-loop)
+    → let a = begun h .args in
+    let l = h .loop in
+    Room (a .g) (l .p .view) (cellWidth (a .g) (a .f .state .settings .width) (l .style)) (cellHeight (l .style))
+room h =
+    let start = begun h in
+    let a = start .args in
+    let l = h .loop in
+    desk-room (a .g) (start .pre .0 .ready .usable) (a .f .state) (l .style) (l .p) (l .inv .within) (ok h) (l .inv .room)
+
+-- memory is as long as it was
+fits : (h : tie.At-loop Inv-loop μ-loop) → Fits (begun h .args .g) (h .loop .mem)
+fits h = let f = begun h .pre .0 .ready .fits in record { size = h .loop .inv .size ∙ f .size; small = f .small }
+
+-- what is carried out and what is left can be counted
+countable : (h : tie.At-loop Inv-loop μ-loop)
+    → h .loop .carried + (length (begun h .args .piece .now) - h .loop .i) < 18446744073709551616
+countable h =
+    let start = begun h in
+    let a = start .args in
+    let due = start .pre .0 in
+    let n = lit-counts (due .ready .usable) (start .pre .1 .free) (h .loop .inv) in
+    let d = length-drop (h .loop .i) (a .piece .now) in
+    let e = length-drop (a .from) (a .piece .now) in
+    omega (arith, n, d, e, due .countable, h .loop .inv .low, h .loop .inv .high)
+
+-- ---- what one of the three gives
+
+-- characters
+drawn : (c : tie.After-run Inv-loop μ-loop)
+    → let h = c .before .before .before .before .before .before .before in
+    let a = begun h .args in
+    let l = h .loop in
+    let r = c .run .result in
+    Lit (a .g) (a .font .now) (a .piece .now) (a .f) (a .mem .now) (a .from)
+    (r .spot) (l .style) (l .carried + (r .at - l .i)) Carried (r .at) (c .run .last .1 .0)
+drawn c =
+    let h = c .before .before .before .before .before .before .before in
+    let start = begun h in
+    let r = start .pre .0 .ready in
+    lit-characters (r .usable) (start .pre .1 .free) (h .loop .inv) (c .run .result) _ (r .state-ok) (omega arith) (omega arith)
+    (c .run .kept .1 .0) (c .run .ensures)
+
+-- a move
+moved : (c : tie.After-step Inv-loop μ-loop)
+    → let h = c .before .before .before .before .before .before .before .before .before .before .before in
+    let a = begun h .args in
+    let l = h .loop in
+    Lit (a .g) (a .font .now) (a .piece .now) (a .f) (a .mem .now) (a .from)
+    (c .step .result) (l .style) (l .carried + 1) Carried (l .i + 1) (c .step .last .1 .0)
+moved c =
+    let sized = c .before .before .before in
+    let tested = sized .before in
+    let turn = tested .before .before .before .before .before .before in
+    let start = begun (turn .before) in
+    let r = start .pre .0 .ready in
+    lit-move (r .usable) (start .pre .1 .free) (turn .before .loop .inv) (c .step .result) _ (r .state-ok) (omega (arith, turn .loop-test .taken))
+    (sym (tested .before .is-move .ensures) ∙ tested .if3 .taken) (c .step .kept .1 .0) (rw (sized .cell-width .ensures) at (c .step .ensures))
+
+-- what is neither is a style
+styling : (c : tie.Else3 Inv-loop μ-loop)
+    → let h = c .before .before .before .before .before .before .before in isStyling (begun h .args .piece .now) (h .loop .i) ≡ true
+styling c =
+    let light = c .before .before .before .before in
+    let h = light .before .before .before in
+    light-style (begun h .args .piece .now) (h .loop .i) (sym (light .before .is-light .ensures) ∙ not-false _ (light .if1 .left))
+    (omega arith) (sym (c .before .is-move .ensures) ∙ c .if3 .left)
+
+-- its three bytes stand in the piece
+whole : (c : tie.Else3 Inv-loop μ-loop)
+    → let h = c .before .before .before .before .before .before .before in h .loop .i + 3 ≤ length (begun h .args .piece .now)
+whole c =
+    let h = c .before .before .before .before .before .before .before in
+    let a = begun h .args in
+    style-whole (a .g) (a .piece .now) (h .loop .i) (styling c)
+
+-- ---- before the loop
 
 spot-of-requires : tie.Need-spot-of-requires Inv-loop μ-loop
 spot-of-requires c κs =
@@ -35,244 +136,122 @@ loop-holds c =
     let start = spot .before .before .before .before .before .before in
     let a = start .args in
     let r = start .pre .0 .ready in
-    lit-begin (a .g) (a .font .now) (a .piece .now) (a .f) (a .mem .now) (a .from) _ (r .usable) (r .state-ok) (start .pre .1 .room) (omega (arith, start .pre .0 .inside)) (spot .spot-of .ensures)
+    lit-begin (a .g) (a .font .now) (a .piece .now) (a .f) (a .mem .now) (a .from) _ (r .usable) (r .state-ok) (start .pre .1 .room)
+    (omega (arith, start .pre .0 .inside)) (spot .spot-of .ensures)
+
+-- ---- what is none of the three
 
 settled-requires : tie.Need-settled-requires Inv-loop μ-loop
 settled-requires c κs =
     let head = c .before .before .before in
-    let l = head .loop in
-    let start = head .before .before .before .before .before .before .before .before .before in
-    let a = start .args in
-    let due = start .pre .0 in
-    let r = due .ready in
-    settles-within (a .g) (a .f .state) (l .p .view) (r .usable) (r .state-ok) (l .inv .within)
+    let a = begun head .args in
+    let r = begun head .pre .0 .ready in
+    settles-within (a .g) (a .f .state) (head .loop .p .view) (r .usable) (r .state-ok) (head .loop .inv .within)
 
 returns : tie.Need-returns Inv-loop μ-loop
 returns c =
-    let head = c .before .before .before .before in
+    let tested = c .before in
+    let head = tested .before .before .before in
     let l = head .loop in
-    let start = head .before .before .before .before .before .before .before .before .before in
+    let start = begun head in
     let a = start .args in
+    let ends = sym (tested .before .is-light .ensures) ∙ not-true _ (tested .if1 .taken) in
     rw (c .settled .ensures)
     (record {
-      some = light-some (a .piece .now) (a .from) (l .i) (l .inv .low) (start .pre .1 .has) (sym (c .before .before .is-light .ensures) ∙ not-true _ (c .before .if1 .taken));
+      some = light-some (a .piece .now) (a .from) (l .i) (l .inv .low) (start .pre .1 .has) ends;
       end = l .inv .high;
       reached = l .inv .reached;
     })
+
+-- ---- characters
 
 run-requires : tie.Need-run-requires Inv-loop μ-loop
 run-requires c κs =
     let head = c .before .before .before .before .before .before in
     let l = head .loop in
-    let start = head .before .before .before .before .before .before .before .before .before in
+    let start = begun head in
     let a = start .args in
     let due = start .pre .0 in
-    let r = due .ready in
-    let ok = lit-accepted (r .usable) (start .pre .1 .free) (l .inv) (r .state-ok) in (
-      (r .usable, (desk-room (a .g) (r .usable) (a .f .state) (l .style) (l .p) (l .inv .within) ok (l .inv .room), (desk-inked (a .g) (r .usable) (a .f .state) (l .style) (l .p) (l .inv .within) ok (a .font .now) (due .font-whole), record { size = l .inv .size ∙ r .fits .size; small = r .fits .small }))),
-      (omega arith, omega arith),
-    )
+    let u = due .ready .usable in
+    let inked = desk-inked (a .g) u (a .f .state) (l .style) (l .p) (l .inv .within) (ok head) (a .font .now) (due .font-whole) in
+    ((u, (room head, (inked, fits head))), (omega arith, omega arith))
 
 add-carried : tie.Need-add-carried Inv-loop μ-loop
 add-carried c =
-    let head = c .before .before .before .before .before .before .before .before .before .before in
-    let l = head .loop in
-    let start = head .before .before .before .before .before .before .before .before .before in
-    let a = start .args in
-    let due = start .pre .0 in
-    let r = due .ready in
-    let n = lit-counts (r .usable) (start .pre .1 .free) (l .inv) in
-    let d = length-drop (l .i) (a .piece .now) in
-    let e = length-drop (a .from) (a .piece .now) in
-    omega (arith, n, d, e, due .countable, l .inv .low, l .inv .high, c .before .before .before .run .ensures .some, c .before .before .before .run .ensures .end)
+    let running = c .before .before .before in
+    let head = running .before .before .before .before .before .before .before in
+    omega (arith, countable head, head .loop .inv .high, running .run .ensures .some, running .run .ensures .end)
 
 in-range-requires : tie.Need-in-range-requires Inv-loop μ-loop
 in-range-requires c κs =
-    let head = c .before .before .before .before .before .before .before .before .before .before in
-    let l = head .loop in
-    let start = head .before .before .before .before .before .before .before .before .before in
-    let due = start .pre .0 in
-    let r = due .ready in
-    let run = c .before .before .before in
-    rw (head .before .before .before .spot-of .ensures) (lit-characters (r .usable) (start .pre .1 .free) (l .inv) (run .run .result) _ (r .state-ok) (omega arith) (omega arith) (run .run .kept .1 .0) (run .run .ensures) .within)
+    let running = c .before .before .before in
+    let head = running .before .before .before .before .before .before .before in
+    rw (head .before .before .before .spot-of .ensures) (drawn running .within)
 
 loop-less : tie.Need-loop-less Inv-loop μ-loop
-loop-less c =
-    omega (arith, c .before .before .before .before .run .ensures .some, c .before .before .before .before .run .ensures .end)
+loop-less c = let ran = c .before .before .before .before .run .ensures in omega (arith, ran .some, ran .end)
 
 loop-again : tie.Need-loop-again Inv-loop μ-loop
-loop-again c =
-    let head = c .before .before .before .before .before .before .before .before .before .before .before in
-    let l = head .loop in
-    let start = head .before .before .before .before .before .before .before .before .before in
-    let due = start .pre .0 in
-    let r = due .ready in
-    let run = c .before .before .before .before in
-    rw (c .in-range .ensures) (lit-characters (r .usable) (start .pre .1 .free) (l .inv) (run .run .result) _ (r .state-ok) (omega arith) (omega arith) (run .run .kept .1 .0) (run .run .ensures))
+loop-again c = rw (c .in-range .ensures) (drawn (c .before .before .before .before))
+
+-- ---- a move
 
 add-carried-2 : tie.Need-add-carried-2 Inv-loop μ-loop
-add-carried-2 c =
-    let head = c .before .before .before .before .before in
-    let l = head .loop in
-    let start = head .before .before .before .before .before .before .before .before .before in
-    let a = start .args in
-    let due = start .pre .0 in
-    let r = due .ready in
-    let n = lit-counts (r .usable) (start .pre .1 .free) (l .inv) in
-    let d = length-drop (l .i) (a .piece .now) in
-    let e = length-drop (a .from) (a .piece .now) in
-    omega (arith, n, d, e, due .countable, l .inv .low, l .inv .high)
+add-carried-2 c = let head = c .before .before .before .before .before in omega (arith, countable head, head .loop .inv .high)
 
 step-requires : tie.Need-step-requires Inv-loop μ-loop
 step-requires c κs =
     let head = c .before .before .before .before .before .before .before .before .before .before in
-    let l = head .loop in
-    let start = head .before .before .before .before .before .before .before .before .before in
-    let a = start .args in
-    let due = start .pre .0 in
-    let r = due .ready in
-    let ok = lit-accepted (r .usable) (start .pre .1 .free) (l .inv) (r .state-ok) in
-    rw (c .before .before .cell-width .ensures) (r .usable, (desk-room (a .g) (r .usable) (a .f .state) (l .style) (l .p) (l .inv .within) ok (l .inv .room), record { size = l .inv .size ∙ r .fits .size; small = r .fits .small }))
+    rw (c .before .before .cell-width .ensures) (begun head .pre .0 .ready .usable, (room head, fits head))
 
 in-range-requires-2 : tie.Need-in-range-requires-2 Inv-loop μ-loop
 in-range-requires-2 c κs =
-    let head = c .before .before .before .before .before .before .before .before .before .before .before .before .before in
-    let l = head .loop in
-    let start = head .before .before .before .before .before .before .before .before .before in
-    let due = start .pre .0 in
-    let r = due .ready in
-    let inside = c .before .before .before .before .before .before .before .before .before .before .before .before .loop-test .taken in
     let stepping = c .before .before in
-    let moving-if = c .before .before .before .before .before .before in
-    let moving = moving-if .before in
-    rw (head .before .before .before .spot-of .ensures) (lit-move (r .usable) (start .pre .1 .free) (l .inv) (stepping .step .result) _ (r .state-ok) (omega (arith, inside)) (sym (moving .is-move .ensures) ∙ moving-if .if3 .taken) (stepping .step .kept .1 .0) (rw (stepping .before .before .before .cell-width .ensures) at (stepping .step .ensures)) .within)
+    let head = stepping .before .before .before .before .before .before .before .before .before .before .before in
+    rw (head .before .before .before .spot-of .ensures) (moved stepping .within)
 
 add-i : tie.Need-add-i Inv-loop μ-loop
 add-i c =
-    let inside = c .before .before .before .before .before .before .before .before .before .before .before .before .before .loop-test .taken in
-    omega (arith, inside, len-small (c .before .before .before .before .before .before .before .before .before .before .before .before .before))
+    let turn = c .before .before .before .before .before .before .before .before .before .before .before .before .before in
+    omega (arith, turn .loop-test .taken, len-small turn)
 
 loop-less-2 : tie.Need-loop-less-2 Inv-loop μ-loop
 loop-less-2 c =
-    let inside = c .before .before .before .before .before .before .before .before .before .before .before .before .before .loop-test .taken in
-    omega (arith, inside)
+    let turn = c .before .before .before .before .before .before .before .before .before .before .before .before .before in
+    omega (arith, turn .loop-test .taken)
 
 loop-again-2 : tie.Need-loop-again-2 Inv-loop μ-loop
-loop-again-2 c =
-    let head = c .before .before .before .before .before .before .before .before .before .before .before .before .before .before in
-    let l = head .loop in
-    let start = head .before .before .before .before .before .before .before .before .before in
-    let due = start .pre .0 in
-    let r = due .ready in
-    let inside = c .before .before .before .before .before .before .before .before .before .before .before .before .before .loop-test .taken in
-    let stepping = c .before .before .before in
-    let moving-if = c .before .before .before .before .before .before .before in
-    let moving = moving-if .before in
-    rw (c .in-range2 .ensures) (lit-move (r .usable) (start .pre .1 .free) (l .inv) (stepping .step .result) _ (r .state-ok) (omega (arith, inside)) (sym (moving .is-move .ensures) ∙ moving-if .if3 .taken) (stepping .step .kept .1 .0) (rw (stepping .before .before .before .cell-width .ensures) at (stepping .step .ensures)))
+loop-again-2 c = rw (c .in-range2 .ensures) (moved (c .before .before .before))
 
-add-styled : tie.Need-add-styled Inv-loop μ-loop
-add-styled c =
-    let head = c .before .before .before .before .before .before .before in
-    let l = head .loop in
-    let start = head .before .before .before .before .before .before .before .before .before in
-    let a = start .args in
-    let passed = c in
-    let light = passed .before .before .before .before .before in
-    let whole = light-style (a .piece .now) (l .i) (sym (light .is-light .ensures) ∙ not-false _ (passed .before .before .before .before .if1 .left)) (omega arith) (sym (passed .before .is-move .ensures) ∙ passed .if3 .left) in
-    let fits = style-whole (a .g) (a .piece .now) (l .i) whole in
-    omega (arith, fits)
-
-shared-slice-read-styled : tie.Need-shared-slice-read-styled Inv-loop μ-loop
-shared-slice-read-styled c =
-    let head = c .before .before .before .before .before .before .before .before in
-    let l = head .loop in
-    let start = head .before .before .before .before .before .before .before .before .before in
-    let a = start .args in
-    let passed = c .before in
-    let light = passed .before .before .before .before .before in
-    let whole = light-style (a .piece .now) (l .i) (sym (light .is-light .ensures) ∙ not-false _ (passed .before .before .before .before .if1 .left)) (omega arith) (sym (passed .before .is-move .ensures) ∙ passed .if3 .left) in
-    let fits = style-whole (a .g) (a .piece .now) (l .i) whole in
-    omega (arith, fits)
-
-add-styled-2 : tie.Need-add-styled-2 Inv-loop μ-loop
-add-styled-2 c =
-    let head = c .before .before .before .before .before .before .before .before in
-    let l = head .loop in
-    let start = head .before .before .before .before .before .before .before .before .before in
-    let a = start .args in
-    let passed = c .before in
-    let light = passed .before .before .before .before .before in
-    let whole = light-style (a .piece .now) (l .i) (sym (light .is-light .ensures) ∙ not-false _ (passed .before .before .before .before .if1 .left)) (omega arith) (sym (passed .before .is-move .ensures) ∙ passed .if3 .left) in
-    let fits = style-whole (a .g) (a .piece .now) (l .i) whole in
-    omega (arith, fits)
-
-shared-slice-read-styled-2 : tie.Need-shared-slice-read-styled-2 Inv-loop μ-loop
-shared-slice-read-styled-2 c =
-    let head = c .before .before .before .before .before .before .before .before .before in
-    let l = head .loop in
-    let start = head .before .before .before .before .before .before .before .before .before in
-    let a = start .args in
-    let passed = c .before .before in
-    let light = passed .before .before .before .before .before in
-    let whole = light-style (a .piece .now) (l .i) (sym (light .is-light .ensures) ∙ not-false _ (passed .before .before .before .before .if1 .left)) (omega arith) (sym (passed .before .is-move .ensures) ∙ passed .if3 .left) in
-    let fits = style-whole (a .g) (a .piece .now) (l .i) whole in
-    omega (arith, fits)
+-- ---- a style
 
 add-i-2 : tie.Need-add-i-2 Inv-loop μ-loop
 add-i-2 c =
-    let head = c .before .before .before .before .before .before .before .before .before .before in
-    let l = head .loop in
-    let start = head .before .before .before .before .before .before .before .before .before in
-    let a = start .args in
     let passed = c .before .before .before in
-    let light = passed .before .before .before .before .before in
-    let whole = light-style (a .piece .now) (l .i) (sym (light .is-light .ensures) ∙ not-false _ (passed .before .before .before .before .if1 .left)) (omega arith) (sym (passed .before .is-move .ensures) ∙ passed .if3 .left) in
-    let fits = style-whole (a .g) (a .piece .now) (l .i) whole in
-    omega (arith, fits, len-small (c .before .before .before .before .before .before .before .before .before))
-
-loop-less-3 : tie.Need-loop-less-3 Inv-loop μ-loop
-loop-less-3 c =
-    let head = c .before .before .before .before .before .before .before .before .before .before in
-    let l = head .loop in
-    let start = head .before .before .before .before .before .before .before .before .before in
-    let a = start .args in
-    let passed = c .before .before .before in
-    let light = passed .before .before .before .before .before in
-    let whole = light-style (a .piece .now) (l .i) (sym (light .is-light .ensures) ∙ not-false _ (passed .before .before .before .before .if1 .left)) (omega arith) (sym (passed .before .is-move .ensures) ∙ passed .if3 .left) in
-    let fits = style-whole (a .g) (a .piece .now) (l .i) whole in
-    omega (arith, fits)
+    omega (arith, whole passed, len-small (passed .before .before .before .before .before .before))
 
 loop-again-3 : tie.Need-loop-again-3 Inv-loop μ-loop
 loop-again-3 c =
-    let head = c .before .before .before .before .before .before .before .before .before .before in
-    let l = head .loop in
-    let start = head .before .before .before .before .before .before .before .before .before in
-    let a = start .args in
-    let due = start .pre .0 in
-    let r = due .ready in
     let passed = c .before .before .before in
-    let light = passed .before .before .before .before .before in
-    let whole = light-style (a .piece .now) (l .i) (sym (light .is-light .ensures) ∙ not-false _ (passed .before .before .before .before .if1 .left)) (omega arith) (sym (passed .before .is-move .ensures) ∙ passed .if3 .left) in
-    rw (c .styled .ensures) (lit-style (r .usable) (start .pre .1 .free) (l .inv) whole)
+    let head = passed .before .before .before .before .before .before .before in
+    let start = begun head in
+    rw (c .styled .ensures) (lit-style (start .pre .0 .ready .usable) (start .pre .1 .free) (head .loop .inv) (styling passed))
+
+-- ---- the piece's end
 
 settled-requires-2 : tie.Need-settled-requires-2 Inv-loop μ-loop
 settled-requires-2 c κs =
     let head = c .before in
-    let l = head .loop in
-    let start = head .before .before .before .before .before .before .before .before .before in
-    let a = start .args in
-    let due = start .pre .0 in
-    let r = due .ready in
-    settles-within (a .g) (a .f .state) (l .p .view) (r .usable) (r .state-ok) (l .inv .within)
+    let a = begun head .args in
+    let r = begun head .pre .0 .ready in
+    settles-within (a .g) (a .f .state) (head .loop .p .view) (r .usable) (r .state-ok) (head .loop .inv .within)
 
 returns-2 : tie.Need-returns-2 Inv-loop μ-loop
 returns-2 c =
     let head = c .before .before in
-    let l = head .loop in
-    let start = head .before .before .before .before .before .before .before .before .before in
-    let due = start .pre .0 in
+    let k = head .loop .inv in
     rw (c .settled2 .ensures)
-    (record { some = omega (arith, due .inside); end = l .inv .high; reached = l .inv .reached })
+    (record { some = omega (arith, begun head .pre .0 .inside); end = k .high; reached = k .reached })
 
 pub feed-light-spec : {M : Type 1} → statement M
 feed-light-spec =
@@ -302,13 +281,13 @@ feed-light-spec =
     add-i
     loop-less-2
     loop-again-2
-    add-styled
-    shared-slice-read-styled
-    add-styled-2
-    shared-slice-read-styled-2
+    (λ c. omega (arith, whole c))
+    (λ c. omega (arith, whole (c .before)))
+    (λ c. omega (arith, whole (c .before)))
+    (λ c. omega (arith, whole (c .before .before)))
     (λ c κs. search needs)
     add-i-2
-    loop-less-3
+    (λ c. omega (arith, whole (c .before .before .before)))
     loop-again-3
     settled-requires-2
     (λ c. c .before .before .loop .inv .size)

@@ -7,7 +7,9 @@ use Rattle.view_font.proofs.read_all.Statement.{statement}
 use Rattle.view_font.proofs.read_all.Tie as tie
 
 abbrev Inv-loop : tie.InvT-loop
-Inv-loop text dots₀ store₀ r₀ line₀ at₀ dots store r line at = (length dots ≡ length dots₀) × (length store ≡ length store₀) × (length dots₀ ≡ 35) × (length store₀ ≡ 1350) × (r .place ≤ 224) × (r .rows ≤ 7)
+Inv-loop text dots₀ store₀ r₀ line₀ at₀ dots store r line at =
+    (length dots ≡ length dots₀) × (length store ≡ length store₀) × (length dots₀ ≡ 35) × (length store₀ ≡ 1350)
+    × (r .place ≤ 224) × (r .rows ≤ 7)
 
 abbrev μ-loop : tie.MeasureT-loop
 μ-loop text dots₀ store₀ r₀ line₀ at₀ dots store r line at = length text - at
