@@ -10,6 +10,7 @@ use paper::Key;
 use paper::Module;
 use paper::Settings;
 use paper::Span;
+use paper::Spans;
 use paper::State;
 use paper::Window;
 
@@ -145,7 +146,7 @@ fn span_ok(g: Module, p: Span) -> bool
 }
 
 // The spans of the two rows.
-fn spans_ok(g: Module, ps: [Span; 2]) -> bool
+fn spans_ok(g: Module, ps: Spans) -> bool
     ensures { λ r. ⌜ r ≡ spansOk g ps ⌝ }
 {
     span_ok(g, ps[0]) & span_ok(g, ps[1])

@@ -4,7 +4,6 @@ use paper::Answer;
 use paper::Module;
 use paper::Refreshed;
 use paper::Refusal;
-use paper::Span;
 use paper::State;
 ghost use mathlib.Core.Path.{_≡_};
 ghost use mathlib.Core.List.{[]};
@@ -58,9 +57,8 @@ pub fn refresh(g: Module, mem: &[u8], glass: &mut [u8], s: State) -> Refreshed
     if accept::is_accepted(g, s) {
         let spans = s.spans;
         let moved = dots::refresh(g, mem, glass, spans);
-        let nothing = Span { first: 0, end: 0 };
         let state = State {
-            spans: [nothing, nothing],
+            spans: state::no_spans(g),
             ..s
         };
         return moves(Refusal::Accepted, state, moved);

@@ -7,7 +7,7 @@ use paper::Command;
 use paper::Module;
 use paper::Outcome;
 use paper::Rect;
-use paper::Span;
+use paper::Spans;
 use paper::State;
 use paper::Style;
 ghost use mathlib.Core.Path.{_≡_};
@@ -122,7 +122,7 @@ pub fn image_byte(
     column: u16,
     row: u16,
     byte: u8,
-) -> [Span; 2]
+) -> Spans
     requires { ⌜ Usable g × (InMemory g (p .view) × Fits g (now mem)) ⌝ }
     ensures { λ r. ⌜ ImageStored g p style column row byte (now (mem .entry)) r (now (mem .exit)) ⌝ }
 {

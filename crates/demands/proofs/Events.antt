@@ -15,7 +15,7 @@ use Rattle.paper.specs.declared.Refusal.{Refusal}
 use Rattle.paper.specs.declared.Refusal.the-variants.{Accepted}
 use Rattle.paper.specs.declared.State.{State}
 use Rattle.paper.specs.Panel.{memoryLength, glassLength, fontLength}
-use Rattle.paper.specs.Strokes.{Stroke, noSpan, applyAll, markAll, refreshed, shownAll}
+use Rattle.paper.specs.Strokes.{Stroke, noSpan, noSpans, applyAll, markAll, refreshed, shownAll}
 use Rattle.paper.specs.Settings.{withSpans}
 use Rattle.paper.specs.Bounds.{accepted}
 use Rattle.paper.specs.Calls.{isAccepted, Feeding, feeding, run, feedRefusal, fedNothing, feedCall, Refreshing, refreshing, refreshRefusal, emptied, refreshCall, heldBy, holdCall}
@@ -36,7 +36,7 @@ use Rattle.laws_memory.proofs.Glass.{covered, covered-facts, covered-test, refr
 use Rattle.laws_memory.proofs.Tests.{not-both}
 use Rattle.laws_glass.specs.Synced.{Synced}
 use Rattle.laws_glass.proofs.Glass.{strokes-synced, refreshed-shows, refreshed-synced}
-use Rattle.demands.specs.Events.{Event, piece, refresh, joined, Play, resting, fedThen, refreshedThen, followed, play, onwards, strokesOf, noSpans, spansSince, owed, visible}
+use Rattle.demands.specs.Events.{Event, piece, refresh, joined, Play, resting, fedThen, refreshedThen, followed, play, onwards, strokesOf, spansSince, owed, visible}
 use Rattle.demands.specs.Demands.{holdNumber, InStep, RefreshedAt, Served}
 use Rattle.demands.proofs.Calls.{hold-answers}
 use Rattle.demands.proofs.Unseen.{run-same, run-state, run-mem, run-spans}

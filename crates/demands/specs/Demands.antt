@@ -17,7 +17,7 @@ use Rattle.paper.specs.declared.Refusal.{Refusal}
 use Rattle.paper.specs.declared.Refusal.the-variants.{Accepted}
 use Rattle.paper.specs.declared.State.{State}
 use Rattle.paper.specs.Panel.{panel, memoryLength, glassLength, fontLength, columnOf, rowOf}
-use Rattle.paper.specs.Strokes.{noSpan, spanHolds, applyAll, refreshed, shownAll}
+use Rattle.paper.specs.Strokes.{noSpan, noSpans, spanHolds, applyAll, refreshed, shownAll}
 use Rattle.paper.specs.Numbers.{refusalNumber, outcomeNumber, carriedBy, answeredBy}
 use Rattle.paper.specs.Reading.{between}
 use Rattle.paper.specs.Settings.{initialSettings, initialState, withHalf, withSpans, windowAt, isDefined}
@@ -27,7 +27,7 @@ use Rattle.paper.specs.Carry.{Asked, askedOf, isHeld, Meaning}
 use Rattle.paper.specs.Calls.{Feeding, feeding, settled, run, fedNothing, started, startCall, feedCall, heldBy, holdCall, released, releaseCall, emptied, Refreshing, refreshCall}
 use Rattle.laws_marked.specs.Marked.{windowOne}
 use Rattle.laws_state.specs.Guest.{Holding, Guest, OnlyInside}
-use Rattle.demands.specs.Events.{Event, refresh, Play, refreshedThen, followed, play, noSpans, spansSince, owed, visible}
+use Rattle.demands.specs.Events.{Event, refresh, Play, refreshedThen, followed, play, spansSince, owed, visible}
 
 -- ==== DEMAND 1. "Any bytes, buffers and state record may be handed in. Each call answers or refuses by document 01's numbers,
 -- in its order. A refused call changes no lent byte and hands the state back unchanged."

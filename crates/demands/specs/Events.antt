@@ -2,13 +2,13 @@
 -- each refresh then has to move. Assumes nothing.
 use mathlib.Core.List.{List, [], _∷_, _++_}
 use Prim.Native.Nat.{ℕ, _+_}
-use lib.ListN.{replicate, take}
+use lib.ListN.{take}
 use Rattle.paper.specs.declared.Module.{Module}
 use Rattle.paper.specs.declared.Span.{Span}
 use Rattle.paper.specs.declared.Refusal.{Refusal}
 use Rattle.paper.specs.declared.State.{State}
 use Rattle.paper.specs.Panel.{glassLength}
-use Rattle.paper.specs.Strokes.{Stroke, noSpan, markAll, shownAll}
+use Rattle.paper.specs.Strokes.{Stroke, noSpans, markAll, shownAll}
 use Rattle.paper.specs.Carry.{byteMeans}
 use Rattle.paper.specs.Calls.{settled, feedCall, refreshCall}
 
@@ -101,10 +101,6 @@ onwards g font s (b ∷ bs) = onwards g font (settled (byteMeans g font s b)) bs
 abbrev pub strokesOf : Module → List ℕ → State → List ℕ → List Stroke
 strokesOf g font s [] = []
 strokesOf g font s (b ∷ bs) = byteMeans g font s b .strokes ++ strokesOf g font (settled (byteMeans g font s b)) bs
-
--- "both spans empty"
-abbrev pub noSpans : Module → List Span
-noSpans g = replicate (g .rows) noSpan
 
 -- the spans of what was written since the last refresh, `since` being what was written before these events. The state goes on
 -- as the joined bytes take it: no refresh changes it

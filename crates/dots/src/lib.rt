@@ -4,6 +4,7 @@
 use paper::Module;
 use paper::Rect;
 use paper::Span;
+use paper::Spans;
 ghost use mathlib.Core.Path.{_≡_};
 ghost use Prim.Native.Nat.{_+_, _≤_, _<_, min};
 ghost use lib.ListN.{length, getD, set};
@@ -139,7 +140,7 @@ fn grow_row(p: Span, y: usize, r: Rect) -> Span
 }
 
 // Both rows' spans, grown by a rectangle.
-pub fn mark(spans: [Span; 2], r: Rect) -> [Span; 2]
+pub fn mark(spans: Spans, r: Rect) -> Spans
     requires { ⌜ (r .left + r .width < 65536) × (r .top + r .height < 65536) ⌝ }
     ensures { λ ps. ⌜ ps ≡ markRect r spans ⌝ }
 {
@@ -149,7 +150,7 @@ pub fn mark(spans: [Span; 2], r: Rect) -> [Span; 2]
 }
 
 // Zeroes all of memory, and marks all of it.
-pub fn erase(g: Module, mem: &mut [u8], spans: [Span; 2]) -> [Span; 2]
+pub fn erase(g: Module, mem: &mut [u8], spans: Spans) -> Spans
     requires { ⌜ Fits g (now mem) × ((g .columns < 65536) × (g .rows < 65536)) ⌝ }
     ensures { λ ps. ⌜ (now (mem .exit) ≡ cleared g (memoryRect g) (now (mem .entry))) × (ps ≡ markRect (memoryRect g) spans) ⌝ }
 {
@@ -199,7 +200,7 @@ pub fn copy_row(g: Module, mem: &[u8], glass: &mut [u8], y: usize, p: Span) -> u
 }
 
 // Copies each span's visible columns to the glass. The number of bytes copied.
-pub fn refresh(g: Module, mem: &[u8], glass: &mut [u8], spans: [Span; 2]) -> usize
+pub fn refresh(g: Module, mem: &[u8], glass: &mut [u8], spans: Spans) -> usize
     requires { ⌜ (2 ≤ g .rows) × Shows g (now mem) (now glass) ⌝ }
     ensures { λ n. ⌜ (now (glass .exit) ≡ refreshed g (now (mem .entry)) spans (now (glass .entry)))
         × (n ≡ shownAll g spans) ⌝ }

@@ -3,7 +3,7 @@
 // Each contract says that what was done is what the paper's move of the same name means.
 use paper::Module;
 use paper::Rect;
-use paper::Span;
+use paper::Spans;
 use paper::View;
 ghost use mathlib.Core.Path.{_≡_};
 ghost use Prim.Native.Nat.{_+_, _*_, _≤_, _<_};
@@ -17,7 +17,7 @@ ghost use Rattle.moves.specs.Does.{Does, spot};
 // What a move works on and gives back: the range with the cursor in it, and both rows' spans.
 pub struct Spot {
     pub view: View,
-    pub spans: [Span; 2],
+    pub spans: Spans,
 }
 
 // ---- places

@@ -3,7 +3,7 @@
 use Prim.Native.Nat.{ℕ, _+_}
 use mathlib.Core.Bool.{Bool, true, false, cond, not}
 use mathlib.Core.List.{List, [], _∷_}
-use lib.ListN.{length, replicate}
+use lib.ListN.{length}
 use lib.Dec.{eqb}
 use Rattle.paper.specs.declared.Module.{Module}
 use Rattle.paper.specs.declared.Half.the-variants.{Nothing}
@@ -18,7 +18,7 @@ use Rattle.paper.specs.declared.Answer.{Answer}
 use Rattle.paper.specs.declared.Fed.{Fed}
 use Rattle.paper.specs.declared.Refreshed.{Refreshed}
 use Rattle.paper.specs.Panel.{memoryLength, glassLength, fontLength}
-use Rattle.paper.specs.Strokes.{noSpan, applyAll, markAll, refreshed, shownAll}
+use Rattle.paper.specs.Strokes.{noSpans, applyAll, markAll, refreshed, shownAll}
 use Rattle.paper.specs.Numbers.{carriedBy, answeredBy}
 use Rattle.paper.specs.Reading.{between}
 use Rattle.paper.specs.Settings.{initialState, withSettings, withSelected, withHold, withHalf, withSpans, windowAt, isDefined}
@@ -163,7 +163,7 @@ refreshing r s n glass = record { answer = record { refusal = r; state = s; move
 
 -- "empties both spans"
 unfoldable pub emptied : Module → State → State
-emptied g s = withSpans s (replicate (g .rows) noSpan)
+emptied g s = withSpans s (noSpans g)
 
 -- "Refresh copies each span's visible columns, changes no other glass byte, empties both spans, and reports the number of bytes
 -- moved, which is the sum of the visible span lengths"

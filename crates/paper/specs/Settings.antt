@@ -20,7 +20,7 @@ use Rattle.paper.specs.declared.Hold.{Hold}
 use Rattle.paper.specs.declared.Hold.the-variants.{Free}
 use Rattle.paper.specs.declared.State.{State}
 use Rattle.paper.specs.Reading.{between}
-use Rattle.paper.specs.Strokes.{noSpan}
+use Rattle.paper.specs.Strokes.{noSpans}
 
 -- ---- initial values
 
@@ -59,7 +59,7 @@ initialState g =
       selected = 0;
       hold = Free;
       half = Nothing;
-      spans = replicate (g .rows) noSpan;
+      spans = noSpans g;
     }
 
 -- ---- a state with one part replaced

@@ -4,7 +4,7 @@
 use Prim.Native.Nat.{ℕ, suc, _+_, _-_, min, max}
 use mathlib.Core.Bool.{Bool, cond, _&&_}
 use mathlib.Core.List.{List, [], _∷_}
-use lib.ListN.{getD}
+use lib.ListN.{getD, replicate}
 use lib.Dec.{leb, ltb, eqb}
 use Rattle.paper.specs.declared.Module.{Module}
 use Rattle.paper.specs.declared.Rect.{Rect}
@@ -54,6 +54,10 @@ applyAll g m (s ∷ ss) = applyAll g (applied g m s) ss
 -- "or nothing"
 abbrev pub noSpan : Span
 noSpan = record { first = 0; end = 0 }
+
+-- "both spans empty"
+abbrev pub noSpans : Module → List Span
+noSpans g = replicate (g .rows) noSpan
 
 -- the columns from first to the one before end
 abbrev pub spanOf : ℕ → ℕ → Span

@@ -68,6 +68,9 @@ pub struct Span {
     pub end: u16,
 }
 
+// A span for each row.
+pub type Spans = [Span; 2];
+
 // The range in which a command works, with the cursor counted from its top left, and the mode.
 pub struct View {
     pub left: usize,
@@ -312,7 +315,7 @@ pub struct State {
     pub selected: u8,
     pub hold: Hold,
     pub half: Half,
-    pub spans: [Span; 2],
+    pub spans: Spans,
 }
 
 // What start, hold and release answer.

@@ -8,7 +8,7 @@ ghost use Rattle.record_write.specs.Bytes.{recordLength, settingsBytes, 
 use paper::Cursor;
 use paper::Hold;
 use paper::Settings;
-use paper::Span;
+use paper::Spans;
 use paper::State;
 use paper::Window;
 use record_half::Slots;
@@ -122,7 +122,7 @@ fn slot_bytes(t: Slots) -> [u8; 12]
 }
 
 // The spans of the two rows.
-fn spans_bytes(ps: [Span; 2]) -> [u8; 8]
+fn spans_bytes(ps: Spans) -> [u8; 8]
     ensures { λ r. ⌜ r ≡ spansBytes ps ⌝ }
 {
     let p = ps[0];

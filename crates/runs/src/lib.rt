@@ -6,7 +6,7 @@ use cells::Cell;
 use moves::Spot;
 use paper::Module;
 use paper::Rect;
-use paper::Span;
+use paper::Spans;
 use paper::Style;
 use paper::View;
 ghost use mathlib.Core.Path.{_≡_};
@@ -214,14 +214,7 @@ fn store(g: Module, mem: &mut [u8], v: View, style: Style, column: u16, row: u16
 }
 
 // Marks the columns `from` to `to` of an image's row: those of them that lie in the range, above its row `bottom`.
-fn mark_row(
-    spans: [Span; 2],
-    v: View,
-    bottom: usize,
-    row: usize,
-    from: usize,
-    to: usize,
-) -> [Span; 2]
+fn mark_row(spans: Spans, v: View, bottom: usize, row: usize, from: usize, to: usize) -> Spans
     requires { ⌜ (v .left + v .width < 65536) × (v .top + bottom < 65536) × (v .x < 65536) × (v .y < 65536) ⌝ }
     requires { ⌜ (row < 2) × (from ≤ to) × (to < 131072) ⌝ }
     ensures { λ r. ⌜ r ≡ rowMark v bottom row from to spans ⌝ }
@@ -244,7 +237,7 @@ fn mark_row(
 // Where a run of image bytes ended: the spans, the place of the image's next byte, and the place in the piece. The image is whole if
 // the column is its width.
 pub struct Filled {
-    pub spans: [Span; 2],
+    pub spans: Spans,
     pub column: u16,
     pub row: u16,
     pub at: usize,

@@ -8,6 +8,7 @@ use paper::Key;
 use paper::Module;
 use paper::Settings;
 use paper::Span;
+use paper::Spans;
 use paper::State;
 use paper::Style;
 use paper::View;
@@ -15,6 +16,7 @@ use paper::Window;
 ghost use mathlib.Core.Path.{_≡_};
 ghost use Prim.Native.Nat.{_+_, _-_, _≤_, _<_};
 ghost use lib.ListN.{set};
+ghost use Rattle.paper.specs.Strokes.{noSpans};
 ghost use Rattle.paper.specs.Settings.{initialSettings, topLeft, noWindow, initialState, enlarged, withSetting, windowAt, newWindow, defined, cancelled, cursorOf, atCursor, inMode, insideWindow, baseView, windowView, viewOf, withView};
 ghost use Rattle.paper.specs.Carry.{isHeld, notCarriedValue, isWrite};
 
@@ -71,13 +73,21 @@ fn no_window() -> Window
     }
 }
 
+// Every span empty.
+pub fn no_spans(g: Module) -> Spans
+    requires { ⌜ g .rows ≡ 2 ⌝ }
+    ensures { λ r. ⌜ r ≡ noSpans g ⌝ }
+{
+    let nothing = Span { first: 0, end: 0 };
+    [nothing, nothing]
+}
+
 // The initial state, both spans empty.
 pub fn initial_state(g: Module) -> State
     requires { ⌜ g .rows ≡ 2 ⌝ }
     ensures { λ r. ⌜ r ≡ initialState g ⌝ }
 {
     let none = no_window();
-    let nothing = Span { first: 0, end: 0 };
     State {
         settings: initial_settings(g),
         windows: [none, none, none, none],
@@ -85,7 +95,7 @@ pub fn initial_state(g: Module) -> State
         selected: 0,
         hold: Hold::Free,
         half: Half::Nothing,
-        spans: [nothing, nothing],
+        spans: no_spans(g),
     }
 }
 

@@ -4,12 +4,12 @@ use mathlib.Core.Path.{_≡_, sym, ap, ap₂, _∙_}
 use mathlib.Core.List.{List}
 use Prim.Native.Nat.{ℕ}
 use native.Mathlib.Omega.{arith}
-use lib.ListN.{length, replicate}
+use lib.ListN.{length}
 use Rattle.paper.specs.declared.Refreshed.{Refreshed}
+use Rattle.paper.specs.declared.Span.{Span}
 use Rattle.paper.specs.declared.Refusal.the-variants.{Accepted}
 use Rattle.paper.specs.Panel.{memoryLength, glassLength}
-use Rattle.paper.specs.Strokes as strokes
-use Rattle.paper.specs.Strokes.{noSpan, shownAll}
+use Rattle.paper.specs.Strokes.{noSpans}
 use Rattle.paper.specs.Settings.{withSpans}
 use Rattle.paper.specs.Calls.{refreshing, emptied}
 use Rattle.laws_state.specs.Told.{refreshed}
@@ -62,16 +62,16 @@ refresh-requires c κs =
 returns-3 : tie.Need-returns-3
 unfolding emptied
 returns-3 c =
-    let shown = c .before .before .before .before .before .before in
+    let emptying = c .before .before .before .before in
+    let shown = emptying .before .before .before in
     let told = shown .before .before .before .before in
     let tested = told .before in
     let start = tested .before .before .before .before .before .before in
     let a = start .args in
     let e = shown .refresh .ensures in
     ap (λ (x : Refreshed). refreshed x (shown .refresh .last .1 .1 .0)) (c .moves3 .ensures)
-    ∙ ap₂ (λ (n : ℕ) (x : List ℕ). refreshing Accepted (withSpans (a .s) (replicate 2 noSpan)) n x) (e .1) (e .0)
-    ∙ ap (λ (k : ℕ). refreshing Accepted (withSpans (a .s) (replicate k noSpan)) (shownAll (a .g) (a .s .spans))
-    (strokes.refreshed (a .g) (a .mem .now) (a .s .spans) (a .glass .now))) (sym (start .pre .1))
+    ∙ ap (λ (ps : List Span). refreshing Accepted (withSpans (a .s) ps) (shown .refresh .result) (shown .refresh .last .1 .1 .0)) (emptying .no-spans .ensures)
+    ∙ ap₂ (λ (n : ℕ) (x : List ℕ). refreshing Accepted (withSpans (a .s) (noSpans (a .g))) n x) (e .1) (e .0)
     ∙ refresh-accepted (a .g) (a .s) (a .mem .now) (a .glass .now) (memory-whole (tested .before .before)) (glass-whole tested)
     (sym (told .is-accepted .ensures) ∙ shown .before .before .before .if3 .taken)
 
@@ -95,6 +95,7 @@ refresh-spec =
     returns-2
     (λ c κs. search needs)
     refresh-requires
+    (λ c κs. search needs)
     (λ c κs. search needs)
     (λ c. search needs)
     returns-3
