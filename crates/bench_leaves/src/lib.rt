@@ -1,5 +1,5 @@
 // Leaves measured: the functions that write memory and glass, exported to C for the benchmark in bench/.
-// It may use modules, dots and cells. Each function works on the 112 by 16 module; it tests what its leaf asks and does nothing if that
+// It may use modules, dots, glass and cells. Each function works on the 112 by 16 module; it tests what its leaf asks and does nothing if that
 // does not hold. It is no part of the panel.
 use paper::Module;
 use paper::Rect;
@@ -133,5 +133,5 @@ pub extern "C" fn leaf_refresh(mem: &[u8], glass: &mut [u8], first: u16, end: u1
         return 0;
     }
     let p = Span { first, end };
-    dots::refresh(g, mem, glass, [p, p])
+    glass::refresh(g, mem, glass, [p, p])
 }

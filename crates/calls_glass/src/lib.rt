@@ -1,5 +1,6 @@
 // Start and refresh, for any usable module: what is refused, in its order, and the memory and the glass that each leaves.
-// It may use modules for the lengths, state for the initial one, accept for the state's test, and dots for memory and glass.
+// It may use modules for the lengths, state for the initial one, accept for the state's test, dots for the memory and
+// glass for what is copied to the glass.
 use paper::Answer;
 use paper::Module;
 use paper::Refreshed;
@@ -56,7 +57,7 @@ pub fn refresh(g: Module, mem: &[u8], glass: &mut [u8], s: State) -> Refreshed
     }
     if accept::is_accepted(g, s) {
         let spans = s.spans;
-        let moved = dots::refresh(g, mem, glass, spans);
+        let moved = glass::refresh(g, mem, glass, spans);
         let state = State {
             spans: state::no_spans(g),
             ..s

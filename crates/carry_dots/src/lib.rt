@@ -1,5 +1,6 @@
 // Carrying out what writes: the commands that write on memory, and an image's byte, each with the answers 15 and 16 that it can have.
-// It may use carry_state for the answer's form, state for the state's parts, and moves, text, cells and dots for what is written.
+// It may use carry_state for the answer's form, state for the state's parts, and moves, text, cells, dots and spans for what is
+// written.
 // Each contract says that what was done is what the paper's meaning says.
 use carry_state::Done;
 use moves::Spot;
@@ -134,7 +135,7 @@ pub fn image_byte(
         let left = v.left + x;
         let top = v.top + y;
         cells::store(g, mem, style, left, top, byte);
-        return dots::mark(
+        return spans::mark(
             before,
             Rect {
                 left,

@@ -1,18 +1,15 @@
-// Dots: the memory as bytes at rows·x + y. Rectangles are cleared and moved, spans grow and are copied to the glass.
-// Each contract gives the whole memory, or the whole glass, afterwards.
-// It may use the paper, the laws of the memory and the spans' growth, and it knows nothing of characters, windows or the state.
+// Dots: the memory as bytes at rows·x + y. Rectangles are cleared and moved, and all of it is erased.
+// Each contract gives the whole memory afterwards.
+// It may use the paper, the laws of the memory and the spans' growth, and it knows nothing of the glass, characters, windows or the state.
 use paper::Module;
 use paper::Rect;
-use paper::Span;
 use paper::Spans;
 ghost use mathlib.Core.Path.{_≡_};
 ghost use Prim.Native.Nat.{_+_, _≤_, _<_, min};
-ghost use lib.ListN.{length, getD, set};
 ghost use Rattle.paper.specs.Panel.{memoryLength, address};
-ghost use Rattle.paper.specs.Strokes.{rectAt, grown, grownBy, markRect, shown, shownAll, refreshed};
+ghost use Rattle.paper.specs.Strokes.{rectAt, markRect};
 ghost use Rattle.paper.specs.Cells.{memoryRect};
 ghost use Rattle.laws_memory.specs.Rectangles.{Fits, Within, cleared, pulled, scrolledUp, movedLeft};
-ghost use Rattle.laws_memory.specs.Glass.{Shows, copied};
 
 // The address of column x, row y.
 pub fn at(g: Module, x: usize, y: usize) -> usize
@@ -114,41 +111,6 @@ pub fn move_left(g: Module, mem: &mut [u8], r: Rect, n: usize)
     clear(g, mem, last);
 }
 
-// ---- spans
-
-// The span grown by `width` columns from `left`: by the first of them and by the last.
-fn grow_columns(p: Span, left: usize, width: usize) -> Span
-    requires { ⌜ (0 < width) × (left + width < 65536) ⌝ }
-    ensures { λ r. ⌜ r ≡ grown p left (left + width) ⌝ }
-{
-    let last = left + (width - 1);
-    let q = spans::grown_by(p, left as u16);
-    spans::grown_by(q, last as u16)
-}
-
-// Row y's span, grown by the columns of a rectangle on that row.
-fn grow_row(p: Span, y: usize, r: Rect) -> Span
-    requires { ⌜ (r .left + r .width < 65536) × (r .top + r .height < 65536) ⌝ }
-    ensures { λ q. ⌜ q ≡ grownBy r y p ⌝ }
-{
-    let reached = (0 < r.width) & ((r.top <= y) & (y < r.top + r.height));
-    if reached {
-        grow_columns(p, r.left, r.width)
-    } else {
-        p
-    }
-}
-
-// Both rows' spans, grown by a rectangle.
-pub fn mark(spans: Spans, r: Rect) -> Spans
-    requires { ⌜ (r .left + r .width < 65536) × (r .top + r .height < 65536) ⌝ }
-    ensures { λ ps. ⌜ ps ≡ markRect r spans ⌝ }
-{
-    let above = grow_row(spans[0], 0, r);
-    let below = grow_row(spans[1], 1, r);
-    [above, below]
-}
-
 // Zeroes all of memory, and marks all of it.
 pub fn erase(g: Module, mem: &mut [u8], spans: Spans) -> Spans
     requires { ⌜ Fits g (now mem) × ((g .columns < 65536) × (g .rows < 65536)) ⌝ }
@@ -161,53 +123,5 @@ pub fn erase(g: Module, mem: &mut [u8], spans: Spans) -> Spans
         height: g.rows,
     };
     clear(g, mem, all);
-    mark(spans, all)
-}
-
-// How many of a span's columns are visible.
-pub fn shown_of(g: Module, p: Span) -> usize
-    ensures { λ r. ⌜ r ≡ shown g p ⌝ }
-{
-    let first = p.first as usize;
-    let end = least(p.end as usize, g.visible);
-    if first < end { end - first } else { 0 }
-}
-
-// ---- the glass
-
-// Copies one byte to the glass, whatever stands there. What is counted is what is copied: one byte.
-fn copy_byte(mem: &[u8], glass: &mut [u8], a: usize) -> usize
-    requires { ⌜ (a < length (now mem)) × (a < length (now glass)) ⌝ }
-    ensures { λ n. ⌜ (now (glass .exit) ≡ set (now (glass .entry)) a (getD (now (mem .entry)) a 0)) × (n ≡ 1) ⌝ }
-{
-    glass[a] = mem[a];
-    1
-}
-
-// Copies a span's visible columns of row y to the glass. The number of bytes copied.
-pub fn copy_row(g: Module, mem: &[u8], glass: &mut [u8], y: usize, p: Span) -> usize
-    requires { ⌜ (y < g .rows) × Shows g (now mem) (now glass) ⌝ }
-    ensures { λ n. ⌜ (now (glass .exit) ≡ copied g (now (mem .entry)) y p (now (glass .entry))) × (n ≡ shown g p) ⌝ }
-{
-    let first = p.first as usize;
-    let width = shown_of(g, p);
-    let mut moved = 0;
-    for j in 0..width {
-        let a = at(g, first + j, y);
-        moved += copy_byte(mem, glass, a);
-    }
-    moved
-}
-
-// Copies each span's visible columns to the glass. The number of bytes copied.
-pub fn refresh(g: Module, mem: &[u8], glass: &mut [u8], spans: Spans) -> usize
-    requires { ⌜ (2 ≤ g .rows) × Shows g (now mem) (now glass) ⌝ }
-    ensures { λ n. ⌜ (now (glass .exit) ≡ refreshed g (now (mem .entry)) spans (now (glass .entry)))
-        × (n ≡ shownAll g spans) ⌝ }
-{
-    let mut moved = 0;
-    for y in 0..2 {
-        moved += copy_row(g, mem, glass, y, spans[y]);
-    }
-    moved
+    spans::mark(spans, all)
 }

@@ -1,5 +1,5 @@
 // Moves: HT, BS, LF and CLR over a view: where the cursor goes, what memory holds, how the spans grow.
-// It may use the dots; it knows nothing of characters, windows, settings or how bytes are read.
+// It may use the dots and the spans; it knows nothing of characters, windows, settings or how bytes are read.
 // Each contract says that what was done is what the paper's move of the same name means.
 use paper::Module;
 use paper::Rect;
@@ -59,7 +59,7 @@ pub fn marked(p: Spot, r: Rect) -> Spot
 {
     let before = p.spans;
     Spot {
-        spans: dots::mark(before, r),
+        spans: spans::mark(before, r),
         ..p
     }
 }

@@ -1,6 +1,6 @@
 // Runs: characters that follow each other in a piece, and an image's bytes that do, each in one loop.
-// It may use text for a character that wraps, cells for what is drawn, moves and dots for the cursor and the spans. It knows no
-// state, so that the compiler need not lay one down for each byte, and what a run has written is marked once.
+// It may use text for a character that wraps, cells for what is drawn, moves, dots and spans for the cursor and what is marked. It knows
+// no state, so that the compiler need not lay one down for each byte, and what a run has written is marked once.
 // Each contract says that the run is the fold of its single bytes.
 use cells::Cell;
 use moves::Spot;
@@ -223,7 +223,7 @@ fn mark_row(spans: Spans, v: View, bottom: usize, row: usize, from: usize, to: u
     let right = dots::least(v.x + to, v.width);
     let top = dots::least(v.y + row, bottom);
     let end = dots::least(v.y + row + 1, bottom);
-    dots::mark(
+    spans::mark(
         spans,
         Rect {
             left: v.left + left,

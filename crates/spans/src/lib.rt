@@ -1,9 +1,12 @@
-// Spans: a row's span grows to include a written column. The span is lent by `&mut` to a thin function over one by value.
-// It may use the paper alone. Whoever grows a span calls `grown_by`, whose parameters are plain.
+// Spans: a row's span grows to include a written column, and both rows' spans grow by a written rectangle: `mark`.
+// The span is lent by `&mut` to a thin function over one by value. Whoever grows a span calls `grown_by`, whose parameters are plain.
+// It may use the paper and the laws of the memory.
+use paper::Rect;
 use paper::Span;
+use paper::Spans;
 ghost use mathlib.Core.Path.{_≡_};
 ghost use Prim.Native.Nat.{_+_, _<_, min, max};
-ghost use Rattle.paper.specs.Strokes.{grown};
+ghost use Rattle.paper.specs.Strokes.{grown, grownBy, markRect};
 
 // The one of two columns that is further left.
 fn leftmost(a: u16, b: u16) -> u16
@@ -49,11 +52,44 @@ fn grow(p: &mut Span, column: u16)
 }
 
 // The same with plain parameters: it makes the reference, so that no caller has to.
-pub fn grown_by(p: Span, column: u16) -> Span
+fn grown_by(p: Span, column: u16) -> Span
     requires { ⌜ column < 65535 ⌝ }
     ensures { λ r. ⌜ r ≡ grown p column (column + 1) ⌝ }
 {
     let mut q = p;
     grow(&mut q, column);
     q
+}
+
+// The span grown by `width` columns from `left`: by the first of them and by the last.
+fn grow_columns(p: Span, left: usize, width: usize) -> Span
+    requires { ⌜ (0 < width) × (left + width < 65536) ⌝ }
+    ensures { λ r. ⌜ r ≡ grown p left (left + width) ⌝ }
+{
+    let last = left + (width - 1);
+    let q = grown_by(p, left as u16);
+    grown_by(q, last as u16)
+}
+
+// Row y's span, grown by the columns of a rectangle on that row.
+fn grow_row(p: Span, y: usize, r: Rect) -> Span
+    requires { ⌜ (r .left + r .width < 65536) × (r .top + r .height < 65536) ⌝ }
+    ensures { λ q. ⌜ q ≡ grownBy r y p ⌝ }
+{
+    let reached = (0 < r.width) & ((r.top <= y) & (y < r.top + r.height));
+    if reached {
+        grow_columns(p, r.left, r.width)
+    } else {
+        p
+    }
+}
+
+// Both rows' spans, grown by a rectangle.
+pub fn mark(spans: Spans, r: Rect) -> Spans
+    requires { ⌜ (r .left + r .width < 65536) × (r .top + r .height < 65536) ⌝ }
+    ensures { λ ps. ⌜ ps ≡ markRect r spans ⌝ }
+{
+    let above = grow_row(spans[0], 0, r);
+    let below = grow_row(spans[1], 1, r);
+    [above, below]
 }

@@ -1,10 +1,10 @@
--- `dots::grow_row` meets its contract: its test is the definition's. Assumes nothing.
+-- `spans::grow_row` meets its contract: its test is the definition's. Assumes nothing.
 use borrow.Author.Needs.{needs}
 use borrow.Author.Tests.{ltb-true}
 use Rattle.paper.specs.Strokes.{grownBy}
 use Rattle.laws_memory.proofs.Tests.{and-parts}
-use Rattle.dots.proofs.grow_row.Statement.{statement}
-use Rattle.dots.proofs.grow_row.Tie as tie
+use Rattle.spans.proofs.grow_row.Statement.{statement}
+use Rattle.spans.proofs.grow_row.Tie as tie
 
 -- what is reached has a column
 wide : tie.Need-grow-columns-requires

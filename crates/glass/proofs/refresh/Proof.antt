@@ -1,4 +1,4 @@
--- `dots::refresh` meets its contract. The loop's invariant: the glass and the count are those of the first y spans.
+-- `glass::refresh` meets its contract. The loop's invariant: the glass and the count are those of the first y spans.
 -- Assumes nothing.
 use mathlib.Core.Path.{_≡_, refl}
 use Prim.Native.Nat.{_≤_, _-_, _*_}
@@ -8,8 +8,8 @@ use lib.ListN.{length, getD, take}
 use lib.Seq.{take-all}
 use Rattle.paper.specs.Strokes.{noSpan, refreshed, shownAll}
 use Rattle.laws_memory.proofs.Glass.{refreshed-none, refreshed-turn, shown-turn, shown-le, visible-small}
-use Rattle.dots.proofs.refresh.Statement.{statement}
-use Rattle.dots.proofs.refresh.Tie as tie
+use Rattle.glass.proofs.refresh.Statement.{statement}
+use Rattle.glass.proofs.refresh.Tie as tie
 
 abbrev Inv-loop : tie.InvT-loop
 Inv-loop g mem glass₀ spans moved₀ y₀ glass moved y =

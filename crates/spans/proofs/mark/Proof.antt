@@ -1,11 +1,11 @@
--- `dots::mark` meets its contract, row by row. Assumes nothing.
+-- `spans::mark` meets its contract, row by row. Assumes nothing.
 use mathlib.Core.Path.{ap₂, _∙_}
 use mathlib.Core.List.{[], _∷_}
 use Rattle.paper.specs.declared.Span.{Span}
 use borrow.Author.Needs.{needs}
 use Rattle.laws_memory.proofs.Spans.{mark-two}
-use Rattle.dots.proofs.mark.Statement.{statement}
-use Rattle.dots.proofs.mark.Tie as tie
+use Rattle.spans.proofs.mark.Statement.{statement}
+use Rattle.spans.proofs.mark.Tie as tie
 
 returns : tie.Need-returns
 returns c =

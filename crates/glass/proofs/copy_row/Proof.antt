@@ -1,4 +1,4 @@
--- `dots::copy_row` meets its contract. The loop's invariant: the first j columns are copied, and counted.
+-- `glass::copy_row` meets its contract. The loop's invariant: the first j columns are copied, and counted.
 -- Assumes nothing.
 use mathlib.Core.Path.{_≡_, refl, ap, _∙_}
 use Prim.Native.Nat.{ℕ, _≤_, _<_, _+_, _-_}
@@ -11,8 +11,8 @@ use Rattle.laws_memory.specs.Glass.{copied}
 use Rattle.laws_memory.proofs.Addresses.{address-lt}
 use Rattle.laws_memory.proofs.Rects.{rect-none, row-turn, row-end}
 use Rattle.laws_memory.proofs.Glass.{shown-lt}
-use Rattle.dots.proofs.copy_row.Statement.{statement}
-use Rattle.dots.proofs.copy_row.Tie as tie
+use Rattle.glass.proofs.copy_row.Statement.{statement}
+use Rattle.glass.proofs.copy_row.Tie as tie
 
 abbrev Inv-loop : tie.InvT-loop
 Inv-loop g mem glass₀ y first width moved₀ j₀ glass moved j =

@@ -1,9 +1,9 @@
--- `dots::shown_of` meets its contract: a difference that stops at 0. Assumes nothing.
+-- `glass::shown_of` meets its contract: a difference that stops at 0. Assumes nothing.
 use borrow.Author.Needs.{needs}
 use native.Mathlib.Omega.{arith}
 use Rattle.paper.specs.Strokes.{shown}
-use Rattle.dots.proofs.shown_of.Statement.{statement}
-use Rattle.dots.proofs.shown_of.Tie as tie
+use Rattle.glass.proofs.shown_of.Statement.{statement}
+use Rattle.glass.proofs.shown_of.Tie as tie
 
 returns : tie.Need-returns
 unfolding shown

@@ -1,13 +1,13 @@
--- `dots::grow_columns` meets its contract: to include the first column and the last is to grow by all. Assumes nothing.
+-- `spans::grow_columns` meets its contract: to include the first column and the last is to grow by all. Assumes nothing.
 use mathlib.Core.Path.{_≡_, ap, _∙_}
 use Prim.Native.Nat.{ℕ, _+_, _-_, _<_}
 use native.Mathlib.Omega.{arith}
 use borrow.Author.Needs.{needs}
 use Rattle.paper.specs.declared.Span.{Span}
 use Rattle.paper.specs.Strokes.{grown}
 use Rattle.spans.proofs.Columns.{two-columns}
-use Rattle.dots.proofs.grow_columns.Statement.{statement}
-use Rattle.dots.proofs.grow_columns.Tie as tie
+use Rattle.spans.proofs.grow_columns.Statement.{statement}
+use Rattle.spans.proofs.grow_columns.Tie as tie
 
 -- the columns end after the last
 first-and-last : (p : Span) (left width : ℕ) → 0 < width
