@@ -1,2 +1,3 @@
--- What strokes keep.
+-- What strokes keep, and marks one after another.
 pub mod Glass
+pub mod Marks

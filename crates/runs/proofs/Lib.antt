@@ -1,6 +1,3 @@
--- Laws of the runs: of marks joined and swapped, of a line, of an image's bytes, and of where the loops have come to.
-mod Marks
+-- Laws of the runs: of a line, and of where the loops have come to.
 mod Lines
-pub mod Rows
 pub mod Running
-mod Filling

@@ -24,7 +24,7 @@ use Rattle.moves.specs.Does.{Does, spot}
 use Rattle.cells.specs.Drawn.{drawn}
 use Rattle.runs.specs.declared.Drawn.{Drawn}
 use Rattle.runs.specs.Runs.{under, drawnTo, penAt, Went, Ran}
-use Rattle.runs.proofs.Marks.{mark-at, mark-none, mark-beside}
+use Rattle.laws_glass.proofs.Marks.{mark-at, mark-none, mark-beside}
 use Rattle.runs.proofs.Lines.{drawn-in-line}
 
 -- what a character did is what it does to a sheet

@@ -1,24 +1,16 @@
--- What a run of characters and a run of an image's bytes owe: from a spot, a memory and a piece, the fold of its bytes. Assumes nothing.
+-- What a run of characters owes: from a spot, a memory and a piece, the fold of its bytes. Assumes nothing.
 use mathlib.Core.Path.{_≡_}
-use mathlib.Core.Bool.{cond}
 use mathlib.Core.List.{List}
-use Prim.Native.Nat.{ℕ, _+_, _-_, _<_, _≤_, min}
+use Prim.Native.Nat.{ℕ, _+_, _-_, _<_, _≤_}
 use lib.ListN.{length, drop}
-use lib.Dec.{ltb}
 use Rattle.paper.specs.declared.Module.{Module}
-use Rattle.paper.specs.declared.Span.{Span}
 use Rattle.paper.specs.declared.Style.{Style}
-use Rattle.paper.specs.declared.View.{View}
 use Rattle.paper.specs.Strokes.{rectAt, markRect}
 use Rattle.paper.specs.Moves.{to}
-use Rattle.laws_state.specs.Runs.{Sheet, sheet, written, charactersOf, Within, image, stored, imageBytesOf}
+use Rattle.laws_state.specs.Runs.{Sheet, sheet, written, charactersOf, Within}
 use Rattle.moves.specs.declared.Spot.{Spot}
 use Rattle.moves.specs.Does.{spot}
 use Rattle.runs.specs.declared.Drawn.{Drawn}
-use Rattle.runs.specs.declared.Place.{Place}
-use Rattle.runs.specs.declared.Filled.{Filled}
-
--- ---- characters
 
 -- a spot and the memory under it
 abbrev pub under : Spot → List ℕ → Sheet
@@ -47,37 +39,3 @@ pub record Ran (g : Module) (font : List ℕ) (w : ℕ) (y : Style) (p : Spot) (
   pub end : r .at ≤ length piece
   pub within : Within (p .view) (r .spot .view)
   pub done : written (under (r .spot) m′) (drop (r .at) piece) ≡ charactersOf g font w y (under p m) (drop from piece)
-
--- ---- an image's bytes
-
--- the place of the byte after another: "column by column, top first"
-abbrev pub placeAfter : ℕ → ℕ → ℕ → Place
-placeAfter height column row =
-    record { column = cond (ltb (row + 1) height) column (column + 1); row = cond (ltb (row + 1) height) (row + 1) 0 }
-
--- the columns a to b of an image's row r, as far as they lie in the range above its row `bottom`, are marked
-unfoldable pub rowMark : View → ℕ → ℕ → ℕ → ℕ → List Span → List Span
-rowMark v bottom r a b ps =
-    markRect (rectAt (v .left + min (v .x + a) (v .width)) (v .top + min (v .y + r) bottom)
-    (min (v .x + b) (v .width) - min (v .x + a) (v .width)) (min (v .y + r + 1) bottom - min (v .y + r) bottom)) ps
-
--- the rows of an image that are in the range end here
-abbrev pub bottomOf : View → ℕ → ℕ
-bottomOf v height = min (v .height) (v .y + height)
-
--- from the byte at (column, row) up to the one at (x, y), of an image two rows high at most: on row 0 the columns from column + row to
--- x + y were written, on row 1 those from column to x
-abbrev pub marksTo : View → ℕ → ℕ → ℕ → ℕ → ℕ → List Span → List Span
-marksTo v height column row x y ps =
-    rowMark v (bottomOf v height) 1 column x (rowMark v (bottomOf v height) 0 (column + row) (x + y) ps)
-
-abbrev pub filledTo : Spot → ℕ → ℕ → ℕ → ℕ → ℕ → ℕ → Filled
-filledTo p height column row x y at =
-    record { spans = marksTo (p .view) height column row x y (p .spans); column = x; row = y; at = at }
-
--- a run of an image's bytes from one place of a piece to another, where the piece or the image ends
-pub record Stocked (g : Module) (p : Spot) (y : Style) (width height column row : ℕ) (m piece : List ℕ) (from : ℕ) (r : Filled) (m′ : List ℕ) : Type 0 where
-  pub some : from < r .at
-  pub end : r .at ≤ length piece
-  pub done : stored (image (r .spans) m′ (r .column) (r .row)) (drop (r .at) piece)
-      ≡ imageBytesOf g (p .view) y width height (image (p .spans) m column row) (drop from piece)

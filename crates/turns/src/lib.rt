@@ -1,5 +1,5 @@
 // Turns: what one turn of the loop over a piece feeds: a run of characters, a run of an image's bytes, or the bytes of a command.
-// It may use runs for the runs, reading for what bytes complete and carry for what that does. It alone counts what the bytes came to.
+// It may use runs and runs_images for the runs, reading for what bytes complete and carry for what that does. It alone counts what the bytes came to.
 // Its contract says that feeding the bytes one by one comes to the same.
 use moves::Spot;
 use paper::Fed;
@@ -134,7 +134,7 @@ fn feed_image(
     let v = s.settings;
     let refusal = f.refusal;
     let style = v.style;
-    let r = runs::image_bytes(g, mem, p, style, width, height, column, row, piece, i);
+    let r = runs_images::image_bytes(g, mem, p, style, width, height, column, row, piece, i);
     let at = r.at;
     let spans = r.spans;
     if r.column == width {

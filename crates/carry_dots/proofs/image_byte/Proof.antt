@@ -2,7 +2,7 @@
 use borrow.Author.Needs.{needs}
 use Prim.Native.Nat.{_+_}
 use native.Mathlib.Omega.{arith}
-use Rattle.runs.proofs.Rows.{inside-facts}
+use Rattle.runs_images.proofs.Rows.{inside-facts}
 use Rattle.carry_dots.proofs.Wrote.{image-stored-in, image-stored-out}
 use Rattle.carry_dots.proofs.image_byte.Statement.{statement}
 use Rattle.carry_dots.proofs.image_byte.Tie as tie

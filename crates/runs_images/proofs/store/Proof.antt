@@ -1,10 +1,10 @@
--- `runs::store` meets its contract: a byte inside the range is stored, one outside is consumed. Assumes nothing.
+-- `runs_images::store` meets its contract: a byte inside the range is stored, one outside is consumed. Assumes nothing.
 use borrow.Author.Needs.{needs}
 use Prim.Native.Nat.{_+_}
 use native.Mathlib.Omega.{arith}
-use Rattle.runs.proofs.Rows.{inside-facts, stored-in, stored-out}
-use Rattle.runs.proofs.store.Statement.{statement}
-use Rattle.runs.proofs.store.Tie as tie
+use Rattle.runs_images.proofs.Rows.{inside-facts, stored-in, stored-out}
+use Rattle.runs_images.proofs.store.Statement.{statement}
+use Rattle.runs_images.proofs.store.Tie as tie
 
 store-requires : tie.Need-store-requires
 store-requires c κs =

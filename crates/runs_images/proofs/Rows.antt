@@ -15,8 +15,8 @@ use Rattle.paper.specs.Strokes.{rectAt, applyAll, markRect, markAll}
 use Rattle.paper.specs.Carry.{imageStrokes}
 use Rattle.laws_memory.proofs.Tests.{and-parts}
 use Rattle.cells.specs.Drawn.{imaged}
-use Rattle.runs.specs.Runs.{placeAfter, rowMark, bottomOf, marksTo}
-use Rattle.runs.proofs.Marks.{mark-at, mark-none, mark-flat, mark-beside, mark-swap}
+use Rattle.runs_images.specs.Images.{placeAfter, rowMark, bottomOf, marksTo}
+use Rattle.laws_glass.proofs.Marks.{mark-at, mark-none, mark-flat, mark-beside, mark-swap}
 
 -- what the test for a byte in the range says
 pub inside-facts : (x w y h : ℕ) → (ltb x w && ltb y h) ≡ true → (x < w) × (y < h)

@@ -16,9 +16,9 @@ use Rattle.laws_state.specs.Runs.{image, storedOn, imageBytesOf}
 use Rattle.laws_state.proofs.Runs.{column-next}
 use Rattle.laws_state.proofs.Taken.{image-bytes-more, image-bytes-whole, image-bytes-end}
 use Rattle.moves.specs.declared.Spot.{Spot}
-use Rattle.runs.specs.declared.Place.{Place}
-use Rattle.runs.specs.Runs.{placeAfter, marksTo, filledTo, Stocked}
-use Rattle.runs.proofs.Rows.{marks-begin, marks-next}
+use Rattle.runs_images.specs.declared.Place.{Place}
+use Rattle.runs_images.specs.Images.{placeAfter, marksTo, filledTo, Stocked}
+use Rattle.runs_images.proofs.Rows.{marks-begin, marks-next}
 
 -- the next place is one of the image's rows, and none before
 row-next : (z : Bool) (r height : ℕ) → ltb (r + 1) height ≡ z → r < height → cond z (r + 1) 0 < height

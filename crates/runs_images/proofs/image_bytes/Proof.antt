@@ -1,12 +1,12 @@
--- `runs::image_bytes` meets its contract. The loop's invariant: what is left gives what the whole run gives. Assumes nothing.
+-- `runs_images::image_bytes` meets its contract. The loop's invariant: what is left gives what the whole run gives. Assumes nothing.
 use mathlib.Core.Path.{_∙_}
 use Prim.Native.Nat.{_+_, _-_, _<_, _≤_}
 use native.Mathlib.Omega.{arith}
 use lib.ListN.{length}
 use borrow.Author.Tests.{eq-eqb, ne-eqb}
-use Rattle.runs.proofs.Filling.{Filling, filling-begin, next-on, next-beyond, next-down, filling-next, filling-whole, filling-end}
-use Rattle.runs.proofs.image_bytes.Statement.{statement}
-use Rattle.runs.proofs.image_bytes.Tie as tie
+use Rattle.runs_images.proofs.Filling.{Filling, filling-begin, next-on, next-beyond, next-down, filling-next, filling-whole, filling-end}
+use Rattle.runs_images.proofs.image_bytes.Statement.{statement}
+use Rattle.runs_images.proofs.image_bytes.Tie as tie
 
 abbrev Inv-loop : tie.InvT-loop
 Inv-loop g mem₀ p style width height column row piece from v x₀ y₀ i₀ mem x y i = Filling g p style width height column row mem₀ piece from mem x y i

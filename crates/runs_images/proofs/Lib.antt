@@ -1,0 +1,3 @@
+-- Laws of a run of an image's bytes: of its rows and their marks, and of where the loop has come to.
+pub mod Rows
+mod Filling
