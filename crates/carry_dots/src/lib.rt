@@ -1,6 +1,6 @@
 // Carrying out what writes: the commands that write on memory, and an image's byte, each with the answers 15 and 16 that it can have.
-// It may use carry_state for the answer's form, state for the state's parts, and moves, text, cells, dots and spans for what is
-// written.
+// It may use carry_state for the answer's form, state for the state's parts, and moves, moves_tab, text, cells, dots and spans for
+// what is written.
 // Each contract says that what was done is what the paper's meaning says.
 use carry_state::Done;
 use moves::Spot;
@@ -69,7 +69,7 @@ pub fn tab(g: Module, mem: &mut [u8], s: State) -> Done
     if carry_state::is_too_large(p.view, cell) {
         return carry_state::ends(s, Outcome::TooLarge);
     }
-    let q = moves::tab(g, mem, p, cell.columns, cell.rows);
+    let q = moves_tab::tab(g, mem, p, cell.columns, cell.rows);
     carry_state::ends(settle(s, q), Outcome::Carried)
 }
 

@@ -1,4 +1,4 @@
-// Moves: HT, BS, LF and CLR over a view: where the cursor goes, what memory holds, how the spans grow.
+// Moves: BS, LF and CLR over a view: where the cursor goes, what memory holds, how the spans grow; and what HT shares with them.
 // It may use the dots and the spans; it knows nothing of characters, windows, settings or how bytes are read.
 // Each contract says that what was done is what the paper's move of the same name means.
 use paper::Module;
@@ -6,12 +6,12 @@ use paper::Rect;
 use paper::Spans;
 use paper::View;
 ghost use mathlib.Core.Path.{_≡_};
-ghost use Prim.Native.Nat.{_+_, _*_, _≤_, _<_};
+ghost use Prim.Native.Nat.{_+_, _≤_, _<_};
 ghost use Rattle.paper.specs.Strokes.{markRect};
 ghost use Rattle.paper.specs.Cells.{rangeOf, upStroke};
-ghost use Rattle.paper.specs.Moves.{to, roomBelow, writing, nextLine, nextLineUp, pushLeft, htOf, backOf, lineDown, lineDownUp, lineFeedOf, clearOf};
+ghost use Rattle.paper.specs.Moves.{to, roomBelow, writing, backOf, lineDown, lineDownUp, lineFeedOf, clearOf};
 ghost use Rattle.laws_memory.specs.Rectangles.{Fits};
-ghost use Rattle.laws_state.specs.Room.{Usable, InMemory, Room};
+ghost use Rattle.laws_state.specs.Room.{Usable, InMemory};
 ghost use Rattle.moves.specs.Does.{Does, spot};
 
 // What a move works on and gives back: the range with the cursor in it, and both rows' spans.
@@ -41,7 +41,7 @@ pub fn place(p: Spot, x: usize, y: usize) -> Spot
 }
 
 // The range.
-fn range(v: View) -> Rect
+pub fn range(v: View) -> Rect
     ensures { λ r. ⌜ r ≡ rangeOf v ⌝ }
 {
     Rect {
@@ -65,7 +65,7 @@ pub fn marked(p: Spot, r: Rect) -> Spot
 }
 
 // Whether another line of cells fits below.
-fn room_below(v: View, l: usize) -> bool
+pub fn room_below(v: View, l: usize) -> bool
     requires { ⌜ (v .y < v .height) × (l ≤ v .height) × (v .height < 65536) ⌝ }
     ensures { λ r. ⌜ r ≡ roomBelow v l ⌝ }
 {
@@ -86,21 +86,10 @@ fn line_down(g: Module, v: View, l: usize) -> View
     if g.keeps { to(v, x, 0) } else { to(v, 0, 0) }
 }
 
-// ---- HT
-
-// The next line of cells, or the first one: from the line's start, the one below.
-fn next_line(v: View, l: usize) -> View
-    requires { ⌜ (v .y < v .height) × (l ≤ v .height) × (v .height < 65536) ⌝ }
-    ensures { λ r. ⌜ r ≡ nextLine v l ⌝ }
-{
-    if room_below(v, l) {
-        return to(v, 0, v.y + l);
-    }
-    to(v, 0, 0)
-}
+// ---- the moves
 
 // The range moves up l rows, and all of it is written; the cursor stays.
-fn scroll(g: Module, mem: &mut [u8], p: Spot, l: usize) -> Spot
+pub fn scroll(g: Module, mem: &mut [u8], p: Spot, l: usize) -> Spot
     requires { ⌜ Usable g × (InMemory g (p .view) × Fits g (now mem)) ⌝ }
     ensures { λ r. ⌜ Does g (p .spans) (now (mem .entry)) r (now (mem .exit)) (writing (upStroke g (p .view) l) (p .view)) ⌝ }
 {
@@ -109,66 +98,6 @@ fn scroll(g: Module, mem: &mut [u8], p: Spot, l: usize) -> Spot
     dots::scroll_up(g, mem, r, l);
     marked(p, r)
 }
-
-// The next line of cells; without room the range scrolls up.
-fn next_line_up(g: Module, mem: &mut [u8], p: Spot, l: usize) -> Spot
-    requires { ⌜ Usable g × (InMemory g (p .view) × ((l ≤ p .view .height) × Fits g (now mem))) ⌝ }
-    ensures { λ r. ⌜ Does g (p .spans) (now (mem .entry)) r (now (mem .exit)) (nextLineUp g (p .view) l) ⌝ }
-{
-    let v = p.view;
-    let y = v.y;
-    let height = v.height;
-    if room_below(v, l) {
-        return place(p, 0, y + l);
-    }
-    let q = scroll(g, mem, p, l);
-    place(q, 0, height - l)
-}
-
-// The cursor's rows move left until a cell fits at the right end.
-pub fn push_left(g: Module, mem: &mut [u8], p: Spot, c: usize, l: usize) -> Spot
-    requires { ⌜ Usable g × (Room g (p .view) c l × ((p .view .width < p .view .x + 2 * c) × Fits g (now mem))) ⌝ }
-    ensures { λ r. ⌜ Does g (p .spans) (now (mem .entry)) r (now (mem .exit)) (pushLeft g (p .view) c l) ⌝ }
-{
-    let v = p.view;
-    let x = v.x;
-    let y = v.y;
-    let width = v.width;
-    let rows = Rect {
-        top: v.top + y,
-        height: dots::least(l, v.height - y),
-        ..range(v)
-    };
-    dots::move_left(g, mem, rows, x + 2 * c - width);
-    place(marked(p, rows), width - c, y)
-}
-
-// HT.
-pub fn tab(g: Module, mem: &mut [u8], p: Spot, c: usize, l: usize) -> Spot
-    requires { ⌜ Usable g × (Room g (p .view) c l × Fits g (now mem)) ⌝ }
-    ensures { λ r. ⌜ Does g (p .spans) (now (mem .entry)) r (now (mem .exit)) (htOf g (p .view) c l) ⌝ }
-{
-    let v = p.view;
-    let x = v.x;
-    let y = v.y;
-    let width = v.width;
-    let mode = v.mode;
-    if x + 2 * c <= width {
-        return place(p, x + c, y);
-    }
-    if mode == 1 {
-        return Spot {
-            view: next_line(v, l),
-            ..p
-        };
-    }
-    if mode == 2 {
-        return next_line_up(g, mem, p, l);
-    }
-    push_left(g, mem, p, c, l)
-}
-
-// ---- the other moves
 
 // BS.
 pub fn back(v: View, c: usize, l: usize) -> View

@@ -1,6 +1,6 @@
 // Runs: characters that follow each other in a piece, in one loop.
-// It may use text for a character that wraps, cells for what is drawn, moves for the cursor and what is marked. It knows no state,
-// so that the compiler need not lay one down for each byte, and what a line has written is marked once.
+// It may use text for a character that wraps, cells for what is drawn, moves and moves_tab for the cursor and what is marked. It knows no
+// state, so that the compiler need not lay one down for each byte, and what a line has written is marked once.
 // Each contract says that the run is the fold of its single bytes.
 use cells::Cell;
 use moves::Spot;
@@ -93,7 +93,7 @@ fn push(g: Module, mem: &mut [u8], font: &[u8], p: Spot, cell: Cell, code: u8) -
     let r = text::inside(v, cell.columns, cell.rows);
     cells::draw(g, mem, font, code, cell.blanks, style, r);
     let q = moves::marked(p, r);
-    moves::push_left(g, mem, q, cell.columns, cell.rows)
+    moves_tab::push_left(g, mem, q, cell.columns, cell.rows)
 }
 
 // One character where the cursor's line has no room for another after it.

@@ -1,5 +1,5 @@
 // Text: a character drawn at the cursor, with the wrap that the mode asks for.
-// It may use moves for the cursor and cells for what is drawn; it knows nothing of windows, settings or how bytes are read.
+// It may use moves and moves_tab for the cursor and cells for what is drawn; it knows nothing of windows, settings or how bytes are read.
 // Each contract says that what was done is what the paper's definition of the same name means.
 use cells::Cell;
 use moves::Spot;
@@ -46,7 +46,7 @@ fn draw_tab(g: Module, mem: &mut [u8], font: &[u8], p: Spot, cell: Cell, code: u
     let r = inside(v, cell.columns, cell.rows);
     cells::draw(g, mem, font, code, cell.blanks, style, r);
     let q = moves::marked(p, r);
-    moves::tab(g, mem, q, cell.columns, cell.rows)
+    moves_tab::tab(g, mem, q, cell.columns, cell.rows)
 }
 
 // Draws an all-off cell at the cursor, then HT.
@@ -59,7 +59,7 @@ fn blank_tab(g: Module, mem: &mut [u8], p: Spot, cell: Cell) -> Spot
     let r = inside(v, cell.columns, cell.rows);
     cells::blank(g, mem, style, r);
     let q = moves::marked(p, r);
-    moves::tab(g, mem, q, cell.columns, cell.rows)
+    moves_tab::tab(g, mem, q, cell.columns, cell.rows)
 }
 
 // A character: drawn where it fits; else after the wrap that the mode asks for.
@@ -77,7 +77,7 @@ pub fn character(g: Module, mem: &mut [u8], font: &[u8], p: Spot, cell: Cell, co
         return draw_tab(g, mem, font, p, cell, code);
     }
     if mode == 3 {
-        let q = moves::tab(g, mem, p, c, cell.rows);
+        let q = moves_tab::tab(g, mem, p, c, cell.rows);
         return draw_tab(g, mem, font, q, cell, code);
     }
     let q = blank_tab(g, mem, p, cell);

@@ -1,10 +1,10 @@
--- `moves::next_line_up` meets its contract. Without room it scrolls, and then the cursor goes. Assumes nothing.
+-- `moves_tab::next_line_up` meets its contract. Without room it scrolls, and then the cursor goes. Assumes nothing.
 use Prim.Native.Nat.{_-_}
 use borrow.Author.Needs.{needs}
 use Rattle.paper.specs.Moves.{only, to, nextLineUp}
 use Rattle.moves.proofs.Done.{does-only, does-after}
-use Rattle.moves.proofs.next_line_up.Statement.{statement}
-use Rattle.moves.proofs.next_line_up.Tie as tie
+use Rattle.moves_tab.proofs.next_line_up.Statement.{statement}
+use Rattle.moves_tab.proofs.next_line_up.Tie as tie
 
 returns : tie.Need-returns
 unfolding nextLineUp

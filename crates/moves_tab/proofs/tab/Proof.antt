@@ -1,10 +1,10 @@
--- `moves::tab` meets its contract. With room for a cell it steps; else by the mode. Assumes nothing.
+-- `moves_tab::tab` meets its contract. With room for a cell it steps; else by the mode. Assumes nothing.
 use borrow.Author.Tests.{le-leb, lt-leb, eq-eqb, ne-eqb}
 use borrow.Author.Needs.{needs}
 use Rattle.paper.specs.Moves.{htOf}
 use Rattle.moves.proofs.Done.{spot-at, does-only}
-use Rattle.moves.proofs.tab.Statement.{statement}
-use Rattle.moves.proofs.tab.Tie as tie
+use Rattle.moves_tab.proofs.tab.Statement.{statement}
+use Rattle.moves_tab.proofs.tab.Tie as tie
 
 returns : tie.Need-returns
 unfolding htOf

@@ -1,8 +1,8 @@
--- `moves::next_line` meets its contract. Assumes nothing.
+-- `moves_tab::next_line` meets its contract. Assumes nothing.
 use borrow.Author.Needs.{needs}
 use Rattle.paper.specs.Moves.{nextLine}
-use Rattle.moves.proofs.next_line.Statement.{statement}
-use Rattle.moves.proofs.next_line.Tie as tie
+use Rattle.moves_tab.proofs.next_line.Statement.{statement}
+use Rattle.moves_tab.proofs.next_line.Tie as tie
 
 returns : tie.Need-returns
 unfolding nextLine
