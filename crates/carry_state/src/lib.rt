@@ -100,7 +100,7 @@ pub fn select(g: Module, s: State, held: bool, k: u8) -> Done
         return ends(s, Outcome::OutOfDomain);
     }
     let windows = s.windows;
-    if accept::selectable(windows, k) {
+    if accept_windows::selectable(windows, k) {
         return ends(State { selected: k, ..s }, Outcome::Carried);
     }
     ends(s, Outcome::NotDefined)
@@ -125,7 +125,7 @@ pub fn set(g: Module, s: State, held: bool, key: Key, n: u8) -> Done
     if state::is_write(key) & held {
         return ends(s, Outcome::WindowHeld);
     }
-    if accept::in_domain(g, key, n) {
+    if accept_settings::in_domain(g, key, n) {
         let v = s.settings;
         let settings = state::with_setting(v, key, n);
         return ends(State { settings, ..s }, Outcome::Carried);
@@ -138,7 +138,7 @@ pub fn enlarge(g: Module, s: State, x: u8, y: u8) -> Done
     requires { ⌜ s .selected ≤ 4 ⌝ }
     ensures { λ r. ⌜ ((font : List ℕ) → Says r (commandOf g font s (Command.Enlarge x y))) ⌝ }
 {
-    if accept::in_enlargement(x, y) {
+    if accept_settings::in_enlargement(x, y) {
         let v = s.settings;
         let settings = state::enlarge(v, x, y);
         return ends(State { settings, ..s }, Outcome::Carried);
@@ -175,7 +175,7 @@ pub fn define(
     if held {
         return ends(s, Outcome::WindowHeld);
     }
-    if accept::fits(g, left, top, width, height) {
+    if accept_windows::fits(g, left, top, width, height) {
         return ends(
             state::define(s, a, left, top, width, height),
             Outcome::Carried,

@@ -4,6 +4,7 @@ pub mod Dots
 pub mod Penned
 pub mod Drawn
 pub mod Tests
+pub mod Chain
 pub mod Readings
 pub mod Beginnings
 pub mod Endings

@@ -1,5 +1,2 @@
 pub mod Counts
-pub mod Gathering
-pub mod Turns
-pub mod Desk
-pub mod Light
+pub mod Images

@@ -1,5 +1,5 @@
 -- `is_accepted` meets its contract: part by part. Assumes nothing.
-use Rattle.accept.proofs.Chain.{first, _then_, _last_}
+use Rattle.laws_bytes.proofs.Chain.{first, _then_, _last_}
 use Rattle.paper.specs.Bounds.{accepted}
 use Rattle.accept.proofs.is_accepted.Statement.{statement}
 use Rattle.accept.proofs.is_accepted.Tie as tie

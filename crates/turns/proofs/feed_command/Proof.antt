@@ -6,7 +6,7 @@ use Rattle.laws_bytes.specs.Readings.{readingOk}
 use Rattle.laws_state.proofs.Parts.{parts}
 use Rattle.paper.specs.Carry.{takeOf}
 use Rattle.turns.proofs.Counts.{carried-one, answered-one, counted-by}
-use Rattle.turns.proofs.Gathering.{gathers-ok, taken-reached}
+use Rattle.turns_light.proofs.Gathering.{gathers-ok, taken-reached}
 use Rattle.turns.proofs.feed_command.Statement.{statement}
 use Rattle.turns.proofs.feed_command.Tie as tie
 

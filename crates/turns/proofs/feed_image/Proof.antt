@@ -5,7 +5,7 @@ use native.Mathlib.Omega.{arith}
 use Rattle.carry_state.proofs.Facts.{selected-small}
 use Rattle.laws_state.specs.Runs.{image}
 use Rattle.laws_state.proofs.Views.{view-place}
-use Rattle.turns.proofs.Turns.{image-bounds, image-bytes-whole-turn, image-bytes-part-turn}
+use Rattle.turns.proofs.Images.{image-bounds, image-bytes-whole-turn, image-bytes-part-turn}
 use Rattle.turns.proofs.feed_image.Statement.{statement}
 use Rattle.turns.proofs.feed_image.Tie as tie
 

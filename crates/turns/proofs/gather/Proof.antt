@@ -5,8 +5,8 @@ use Prim.Native.Nat.{_+_, _-_, _<_, _≤_}
 use native.Mathlib.Omega.{arith}
 use lib.ListN.{length, drop}
 use Rattle.paper.specs.declared.Reading.the-variants.{More}
-use Rattle.turns.specs.Turns.{Gathers, here}
-use Rattle.turns.proofs.Gathering.{gathers-read}
+use Rattle.turns_light.specs.Turns.{Gathers, here}
+use Rattle.turns_light.proofs.Gathering.{gathers-read}
 use Rattle.turns.proofs.gather.Statement.{statement}
 use Rattle.turns.proofs.gather.Tie as tie
 

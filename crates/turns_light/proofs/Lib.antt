@@ -1,0 +1,4 @@
+pub mod Gathering
+pub mod Turns
+pub mod Desk
+pub mod Light

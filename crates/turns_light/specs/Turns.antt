@@ -1,0 +1,67 @@
+-- What a turn of the loop over a piece owes. Assumes nothing.
+use mathlib.Core.Path.{_≡_}
+use mathlib.Core.Bool.{true, false}
+use mathlib.Core.List.{List, _∷_}
+use Prim.Native.Nat.{ℕ, _+_, _-_, _<_, _≤_}
+use lib.ListN.{length, drop}
+use Rattle.paper.specs.declared.Module.{Module}
+use Rattle.paper.specs.declared.Fed.{Fed}
+use Rattle.paper.specs.declared.Half.{Half}
+use Rattle.paper.specs.declared.Half.the-variants.{Nothing}
+use Rattle.paper.specs.declared.Reading.{Reading}
+use Rattle.paper.specs.declared.Reading.the-variants.{More}
+use Rattle.paper.specs.declared.Outcome.{Outcome}
+use Rattle.paper.specs.declared.Refusal.{Refusal}
+use Rattle.paper.specs.declared.State.{State}
+use Rattle.paper.specs.declared.Style.{Style}
+use Rattle.paper.specs.Panel.{fontLength}
+use Rattle.paper.specs.Reading.{readOf}
+use Rattle.paper.specs.Settings.{withSettings, withSpans, withStyle, withView}
+use Rattle.paper.specs.Carry.{exceeds}
+use Rattle.laws_state.specs.Runs.{Reaches}
+use Rattle.laws_state.specs.Told.{fed}
+use Rattle.moves.specs.declared.Spot.{Spot}
+use Rattle.strides.specs.Strides.{isLight}
+use Rattle.carry_dots.specs.Does.{Ready}
+use Rattle.turns_light.specs.declared.Turn.{Turn}
+
+-- a byte that is a character, while nothing is half read and a cell has room
+pub record Drawable (g : Module) (s : State) (b : ℕ) : Type 0 where
+  pub free : s .half ≡ Nothing
+  pub has : 0x20 ≤ b
+  pub room : exceeds g s ≡ false
+
+-- a byte with which a stretch that needs no state begins, while nothing is half read and a cell has room
+pub record Light (g : Module) (s : State) (piece : List ℕ) (i : ℕ) : Type 0 where
+  pub free : s .half ≡ Nothing
+  pub has : isLight piece i ≡ true
+  pub room : exceeds g s ≡ false
+
+-- the state with another style, and with its current window's cursor and its spans where a spot has them
+abbrev pub restyled : State → Style → State
+restyled s y = withSettings s (withStyle (s .settings) y)
+
+abbrev pub onDesk : State → Style → Spot → State
+onDesk s y p = withSpans (withView (restyled s y) (p .view)) (p .spans)
+
+-- a turn by its parts
+abbrev pub turnedTo : Refusal → State → ℕ → ℕ → Outcome → ℕ → Turn
+turnedTo r s c a o at = record { fed = record { refusal = r; state = s; carried = c; answered = a; outcome = o }; at = at }
+
+-- reading on with the bytes bs after a reading comes, byte by byte, to another with rest left; only a half-read command is read on
+pub data Gathers (g : Module) : Reading → List ℕ → Reading → List ℕ → Type 0 where
+  here : {q : Reading} {bs : List ℕ} → Gathers g q bs q bs
+  byte : {h : Half} {q r : Reading} {b : ℕ} {bs rest : List ℕ} → readOf g h b ≡ q → Gathers g q bs r rest → Gathers g (More h) (b ∷ bs) r rest
+
+-- a byte of the piece is next, and all that are left can be counted
+pub record Due (g : Module) (m font piece : List ℕ) (f : Fed) (i : ℕ) : Type 0 where
+  pub ready : Ready g (f .state) m
+  pub font-whole : length font ≡ fontLength g
+  pub inside : i < length piece
+  pub countable : f .carried + f .answered + (length piece - i) < 18446744073709551616
+
+-- some bytes more are fed, as they are one by one
+pub record Turned (g : Module) (font : List ℕ) (f : Fed) (m piece : List ℕ) (i : ℕ) (r : Turn) (m′ : List ℕ) : Type 0 where
+  pub some : i < r .at
+  pub end : r .at ≤ length piece
+  pub reached : Reaches g font (fed f m) (drop i piece) (fed (r .fed) m′) (drop (r .at) piece)
