@@ -4,9 +4,9 @@ use mathlib.Core.Path.{_∙_}
 use mathlib.Core.Logic.{inl, inr}
 use native.Mathlib.Omega.{arith}
 use Rattle.paper.specs.Reading.{readFirst}
-use Rattle.reading.proofs.Ranges.{first-character, first-move, first-select, first-unknown}
-use Rattle.reading.proofs.read_first.Statement.{statement}
-use Rattle.reading.proofs.read_first.Tie as tie
+use Rattle.reading_codes.proofs.Ranges.{first-character, first-move, first-select, first-unknown}
+use Rattle.reading_codes.proofs.read_first.Statement.{statement}
+use Rattle.reading_codes.proofs.read_first.Tie as tie
 
 escape : tie.Need-returns
 unfolding readFirst

@@ -1,8 +1,8 @@
 -- `read_move` meets its contract: each of the six moves has its arm. Assumes nothing.
 use Rattle.paper.specs.Reading.{readMove}
-use Rattle.reading.proofs.Ranges.{differs}
-use Rattle.reading.proofs.read_move.Statement.{statement}
-use Rattle.reading.proofs.read_move.Tie as tie
+use Rattle.reading_codes.proofs.Ranges.{differs}
+use Rattle.reading_codes.proofs.read_move.Statement.{statement}
+use Rattle.reading_codes.proofs.read_move.Tie as tie
 
 pub read-move-spec : {M : Type 1} → statement M
 unfolding readMove
