@@ -8,7 +8,7 @@ use Rattle.paper.specs.declared.Module.{Module}
 use Rattle.paper.specs.declared.Settings.{Settings}
 use Rattle.paper.specs.Panel.{fontLength}
 use Rattle.paper.specs.Bounds.{settingsOk}
-use Rattle.cells.specs.Cell.{cellOf}
+use Rattle.glyphs.specs.Cell.{cellOf}
 use Rattle.text.specs.Inked.{Inked}
 use Rattle.paper.specs.Settings.{inEnlargement}
 use Rattle.paper.specs.Reading.{between}

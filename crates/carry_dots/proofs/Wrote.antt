@@ -24,8 +24,8 @@ use Rattle.carry_state.specs.declared.Done.{Done}
 use Rattle.carry_state.specs.Says.{Says, done}
 use Rattle.laws_state.specs.Room.{Kept}
 use Rattle.carry_state.proofs.Facts.{selected-small, place-small, tested}
-use Rattle.cells.specs.declared.Cell.{Cell}
-use Rattle.cells.specs.Cell.{cellOf}
+use Rattle.glyphs.specs.declared.Cell.{Cell}
+use Rattle.glyphs.specs.Cell.{cellOf}
 use Rattle.cells.specs.Drawn.{imaged}
 use Rattle.laws_state.proofs.Parts.{parts, whole}
 use Rattle.laws_state.proofs.Builders.{half-parts}

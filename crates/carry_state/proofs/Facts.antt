@@ -13,8 +13,8 @@ use Rattle.paper.specs.Settings.{viewOf}
 use Rattle.paper.specs.Cells.{tooLarge}
 use Rattle.paper.specs.Moves.{Moved}
 use Rattle.paper.specs.Carry.{exceeds}
-use Rattle.cells.specs.declared.Cell.{Cell}
-use Rattle.cells.specs.Cell.{cellOf}
+use Rattle.glyphs.specs.declared.Cell.{Cell}
+use Rattle.glyphs.specs.Cell.{cellOf}
 use Rattle.laws_state.specs.Room.{Usable, InMemory, Kept}
 use Rattle.laws_state.proofs.Parts.{parts, selected-facts}
 

@@ -1,7 +1,7 @@
 // Carrying out what writes nothing: the commands that change the state alone, each with its answers 14, 15, 11, 17, 16 in their order.
-// It may use state for the state's parts and moves and cells for where a cursor goes; it knows nothing of memory.
+// It may use state for the state's parts, and moves and glyphs for where a cursor goes; it knows nothing of memory.
 // Each contract says that the state and the outcome are those of the paper's meaning, and that the meaning has no strokes.
-use cells::Cell;
+use glyphs::Cell;
 use paper::Command;
 use paper::Cursor;
 use paper::Key;
@@ -17,7 +17,7 @@ ghost use Rattle.paper.specs.Cells.{tooLarge};
 ghost use Rattle.paper.specs.Bounds.{accepted};
 ghost use Rattle.paper.specs.Carry.{isHeld, commandOf};
 ghost use Rattle.laws_state.specs.Room.{Usable};
-ghost use Rattle.cells.specs.Cell.{cellOf};
+ghost use Rattle.glyphs.specs.Cell.{cellOf};
 ghost use Rattle.carry_state.specs.Says.{Says, done};
 
 // What a command or a byte came to: the state afterwards, and the outcome.
@@ -40,7 +40,7 @@ pub fn cell_now(g: Module, s: State) -> Cell
 {
     let v = s.settings;
     let style = v.style;
-    cells::cell_of(g, v.width, style)
+    glyphs::cell_of(g, v.width, style)
 }
 
 // Whether a cell exceeds the range.

@@ -17,8 +17,9 @@ use Rattle.laws_bytes.proofs.Drawn.{cell-byte}
 use Rattle.laws_memory.specs.Rectangles.{Bytes}
 use Rattle.laws_memory.proofs.Tests.{and-parts}
 use Rattle.laws_memory.proofs.Rects.{rect-none, rect-beside}
+use Rattle.glyphs.specs.Columns.{plainByte, blankRight, plainWidth}
 use Rattle.cells.specs.Drawn.{drawn}
-use Rattle.cells.specs.Columns.{mixedAt, plainByte, unlit, inlaid, blankRight, plainWidth}
+use Rattle.cells.specs.Mixed.{mixedAt, unlit, inlaid}
 use Rattle.cells.proofs.Columns.{either, column-one, cell-turn, cell-end}
 
 -- what the test for such a cell says

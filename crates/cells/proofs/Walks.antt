@@ -9,9 +9,9 @@ use Rattle.paper.specs.declared.Module.{Module}
 use Rattle.paper.specs.declared.Style.{Style}
 use Rattle.laws_bytes.specs.Bytes.{reversedByte, cellByte}
 use Rattle.laws_memory.proofs.Tests.{eq-cases}
-use Rattle.cells.specs.declared.Tall.{Tall}
-use Rattle.cells.specs.declared.Walk.{Walk}
-use Rattle.cells.specs.Columns.{atRow, inkColumn, nextOf}
+use Rattle.glyphs.specs.declared.Tall.{Tall}
+use Rattle.glyphs.specs.declared.Walk.{Walk}
+use Rattle.glyphs.specs.Columns.{atRow, inkColumn, nextOf}
 
 -- what is i past a multiple of n
 quotient : (n k i j : ℕ) → j ≡ n * k + i → i < n → j / n ≡ k

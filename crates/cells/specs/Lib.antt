@@ -1,3 +1,2 @@
-pub mod Cell
 pub mod Drawn
-pub mod Columns
+pub mod Mixed

@@ -1,8 +1,8 @@
 // Runs: characters that follow each other in a piece, in one loop.
-// It may use text for a character that wraps, cells for what is drawn, moves and moves_tab for the cursor and what is marked. It knows no
-// state, so that the compiler need not lay one down for each byte, and what a line has written is marked once.
+// It may use text for a character that wraps, glyphs and cells for what is drawn, moves and moves_tab for the cursor and what is marked. It
+// knows no state, so that the compiler need not lay one down for each byte, and what a line has written is marked once.
 // Each contract says that the run is the fold of its single bytes.
-use cells::Cell;
+use glyphs::Cell;
 use moves::Spot;
 use paper::Module;
 use paper::Rect;
@@ -14,7 +14,7 @@ ghost use Rattle.paper.specs.Cells.{cellWidth, cellHeight};
 ghost use Rattle.paper.specs.Moves.{characterOf};
 ghost use Rattle.laws_memory.specs.Rectangles.{Fits};
 ghost use Rattle.laws_state.specs.Room.{Usable, Room};
-ghost use Rattle.cells.specs.Cell.{cellOf};
+ghost use Rattle.glyphs.specs.Cell.{cellOf};
 ghost use Rattle.moves.specs.Does.{Does};
 ghost use Rattle.text.specs.Inked.{Inked};
 ghost use Rattle.runs.specs.Runs.{Went, Ran, penAt, drawnTo};
@@ -155,7 +155,7 @@ pub fn run(
     requires { ⌜ (from < length (now piece)) × (0x20 ≤ getD (now piece) from 0) ⌝ }
     ensures { λ r. ⌜ Ran g (now (font .entry)) w style p (now (mem .entry)) (now (piece .entry)) from r (now (mem .exit)) ⌝ }
 {
-    let cell = cells::cell_of(g, w, style);
+    let cell = glyphs::cell_of(g, w, style);
     let mut q = p;
     let mut i = from;
     while i < piece.len() {

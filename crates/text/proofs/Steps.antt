@@ -11,8 +11,8 @@ use Rattle.paper.specs.Moves.{Moved}
 use Rattle.laws_memory.specs.Rectangles.{Fits}
 use Rattle.laws_state.specs.Room.{Usable, Room, Kept}
 use Rattle.laws_state.proofs.Moves.{kept-room}
-use Rattle.cells.specs.declared.Cell.{Cell}
-use Rattle.cells.specs.Cell.{Drawable}
+use Rattle.glyphs.specs.declared.Cell.{Cell}
+use Rattle.glyphs.specs.Cell.{Drawable}
 use Rattle.moves.specs.declared.Spot.{Spot}
 use Rattle.moves.specs.Does.{Does}
 use Rattle.text.specs.Inked.{Inked}

@@ -5,8 +5,8 @@ use Prim.Native.Nat.{ℕ, _≤_}
 use lib.ListN.{length}
 use Rattle.paper.specs.declared.Module.{Module}
 use Rattle.paper.specs.Panel.{fontLength}
-use Rattle.cells.specs.declared.Cell.{Cell}
-use Rattle.cells.specs.Cell.{Drawable}
+use Rattle.glyphs.specs.declared.Cell.{Cell}
+use Rattle.glyphs.specs.Cell.{Drawable}
 
 -- a whole font, a code that it has, and a cell that can be drawn
 pub record Inked (g : Module) (font : List ℕ) (c : Cell) (code : ℕ) : Type 0 where

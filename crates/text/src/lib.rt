@@ -1,7 +1,7 @@
 // Text: a character drawn at the cursor, with the wrap that the mode asks for.
-// It may use moves and moves_tab for the cursor and cells for what is drawn; it knows nothing of windows, settings or how bytes are read.
+// It may use moves and moves_tab for the cursor, glyphs and cells for what is drawn; it knows nothing of windows, settings or how bytes are read.
 // Each contract says that what was done is what the paper's definition of the same name means.
-use cells::Cell;
+use glyphs::Cell;
 use moves::Spot;
 use paper::Module;
 use paper::Rect;
@@ -12,7 +12,7 @@ ghost use Rattle.paper.specs.Cells.{partOf};
 ghost use Rattle.paper.specs.Moves.{drawTab, blankTab, characterOf};
 ghost use Rattle.laws_memory.specs.Rectangles.{Fits};
 ghost use Rattle.laws_state.specs.Room.{Usable, Room};
-ghost use Rattle.cells.specs.Cell.{Drawable};
+ghost use Rattle.glyphs.specs.Cell.{Drawable};
 ghost use Rattle.moves.specs.Does.{Does};
 ghost use Rattle.text.specs.Inked.{Inked};
 

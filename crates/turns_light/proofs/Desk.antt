@@ -24,7 +24,7 @@ use Rattle.laws_state.proofs.Parts.{parts}
 use Rattle.laws_state.proofs.Views.{view-room}
 use Rattle.laws_state.proofs.Sheets.{at-settings, at-half, sheet-view, sheet-exceeds}
 use Rattle.laws_state.proofs.Tests.{by-cond}
-use Rattle.cells.specs.Cell.{cellOf}
+use Rattle.glyphs.specs.Cell.{cellOf}
 use Rattle.moves.specs.declared.Spot.{Spot}
 use Rattle.text.specs.Inked.{Inked}
 use Rattle.runs.specs.Runs.{under}

@@ -100,7 +100,7 @@ pub fn feed_light(g: Module, mem: &mut [u8], font: &[u8], piece: &[u8], f: Fed, 
         }
         carried += 1;
         if strides::is_move(b) {
-            let c = cells::cell_width(g, w, style);
+            let c = glyphs::cell_width(g, w, style);
             let q = strides::step(g, mem, p, c, style.down as usize, b);
             p = strides::in_range(range, q);
             i += 1;

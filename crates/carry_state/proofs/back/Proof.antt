@@ -8,7 +8,7 @@ use Rattle.paper.specs.declared.View.{View}
 use Rattle.paper.specs.Settings.{viewOf, withView}
 use Rattle.paper.specs.Moves.{only, backOf}
 use Rattle.paper.specs.Carry.{asks, carriedOut, widthNow, heightNow, exceeds}
-use Rattle.cells.specs.declared.Cell.{Cell}
+use Rattle.glyphs.specs.declared.Cell.{Cell}
 use Rattle.laws_state.specs.Room.{Room}
 use Rattle.laws_state.proofs.Moves.{back-kept}
 use Rattle.laws_state.proofs.Views.{view-place, view-room}

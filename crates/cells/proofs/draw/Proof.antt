@@ -3,7 +3,7 @@ use mathlib.Core.Path.{_≡_}
 use Prim.Native.Nat.{_+_, _≤_}
 use native.Mathlib.Omega.{arith}
 use borrow.Author.Needs.{needs}
-use Rattle.cells.specs.Columns.{plainWidth}
+use Rattle.glyphs.specs.Columns.{plainWidth}
 use Rattle.cells.proofs.Stamps.{plain-facts}
 use Rattle.cells.proofs.draw.Statement.{statement}
 use Rattle.cells.proofs.draw.Tie as tie

@@ -4,8 +4,8 @@ use Prim.Native.Nat.{ℕ, _+_, _≤_}
 use native.Mathlib.Omega.{arith}
 use borrow.Author.Needs.{needs}
 use Rattle.paper.specs.Strokes.{rectAt}
+use Rattle.glyphs.specs.Columns.{plainWidth}
 use Rattle.cells.specs.Drawn.{drawn}
-use Rattle.cells.specs.Columns.{plainWidth}
 use Rattle.cells.proofs.Stamps.{plain-cell-facts}
 use Rattle.cells.proofs.draw_whole.Statement.{statement}
 use Rattle.cells.proofs.draw_whole.Tie as tie

@@ -7,8 +7,8 @@ use lib.ListN.{length}
 use Rattle.laws_memory.proofs.Rects.{rect-none, row-end}
 use Rattle.paper.specs.Panel.{fontLength, glyphByte}
 use Rattle.laws_bytes.specs.Bytes.{reversedByte}
-use Rattle.cells.specs.Columns.{inlaid}
-use Rattle.cells.proofs.Frames.{font-most, glyph-in, placed-byte}
+use Rattle.glyphs.proofs.Frames.{font-most, glyph-in, placed-byte}
+use Rattle.cells.specs.Mixed.{inlaid}
 use Rattle.cells.proofs.Stamps.{inlaid-turn}
 use Rattle.cells.proofs.stamp_glyph.Statement.{statement}
 use Rattle.cells.proofs.stamp_glyph.Tie as tie
