@@ -6,6 +6,7 @@ use paper::Rect;
 use paper::Spans;
 ghost use mathlib.Core.Path.{_≡_};
 ghost use Prim.Native.Nat.{_+_, _≤_, _<_, min};
+ghost use lib.ListN.{getD, set};
 ghost use Rattle.paper.specs.Panel.{memoryLength, address};
 ghost use Rattle.paper.specs.Strokes.{rectAt, markRect};
 ghost use Rattle.paper.specs.Cells.{memoryRect};
@@ -47,8 +48,20 @@ pub fn least(a: usize, b: usize) -> usize
     if a < b { a } else { b }
 }
 
-// Each column of one row takes the byte `right` columns right of it and `down` rows below. It goes from the left, so
-// that no byte is taken after another was stored over it.
+// One column of one row takes the byte `right` columns right of it and `down` rows below.
+fn pull_one(g: Module, mem: &mut [u8], x: usize, y: usize, right: usize, down: usize)
+    requires { ⌜ Within g (rectAt x y (1 + right) (1 + down)) × Fits g (now mem) ⌝ }
+    ensures { λ _. ⌜ now (mem .exit)
+        ≡ set (now (mem .entry)) (address g x y) (getD (now (mem .entry)) (address g (x + right) (y + down)) 0) ⌝ }
+{
+    let from = at(g, x + right, y + down);
+    let v = mem[from];
+    let to = at(g, x, y);
+    mem[to] = v;
+}
+
+// Each column of one row does so, two in a turn of the loop. It goes from the left, so that no byte is taken after
+// another was stored over it.
 fn pull_row(
     g: Module,
     mem: &mut [u8],
@@ -61,11 +74,14 @@ fn pull_row(
     requires { ⌜ Within g (rectAt left y (width + right) (1 + down)) × Fits g (now mem) ⌝ }
     ensures { λ _. ⌜ now (mem .exit) ≡ pulled g (rectAt left y width 1) right down (now (mem .entry)) ⌝ }
 {
-    for j in 0..width {
-        let from = at(g, left + (j + right), y + down);
-        let v = mem[from];
-        let to = at(g, left + j, y);
-        mem[to] = v;
+    let mut j = 0;
+    while 1 < width - j {
+        pull_one(g, mem, left + j, y, right, down);
+        pull_one(g, mem, left + (j + 1), y, right, down);
+        j += 2;
+    }
+    if j < width {
+        pull_one(g, mem, left + j, y, right, down);
     }
 }
 

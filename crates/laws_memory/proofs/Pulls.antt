@@ -1,5 +1,5 @@
 -- The turns of the loops of `pull`, and what a pull with a clearing below it or beside it makes. Assumes nothing.
-use mathlib.Core.Path.{_≡_, sym, ap, ap₂, _∙_}
+use mathlib.Core.Path.{_≡_, refl, sym, ap, ap₂, _∙_}
 use mathlib.Core.Bool.{cond}
 use mathlib.Core.List.{List}
 use Prim.Native.Nat.{ℕ, _+_, _<_, min}
@@ -22,26 +22,26 @@ module _ (g : Module) (m : List ℕ) (fits : Fits g m) (left right down : ℕ) w
   place-in x y hx hy = omega (arith, address-lt g x y hy (g .columns) hx)
 
   -- a byte taken from a place that the loop has not come to
-  pub pull-row-turn : (y w j : ℕ) (cur : List ℕ) (from to v : ℕ) → Within g (rectAt left y (w + right) (1 + down)) → j < w
+  pub pull-row-turn : (y w j : ℕ) (cur next : List ℕ) → Within g (rectAt left y (w + right) (1 + down)) → j < w
       → cur ≡ pulled g (rectAt left y j 1) right down m → length cur ≡ length m
-      → from ≡ address g (left + (j + right)) (y + down) → v ≡ getD cur from 0 → to ≡ address g (left + j) y
-      → set cur to v ≡ pulled g (rectAt left y (j + 1) 1) right down m
+      → next ≡ set cur (address g (left + j) y) (getD cur (address g (left + j + right) (y + down)) 0)
+      → next ≡ pulled g (rectAt left y (j + 1) 1) right down m
   unfolding pulled
-  pull-row-turn y w j cur from to v within hj e len ef ev et =
-      row-turn g left y j _ m cur to v et e (omega arith) inside
-      (ev ∙ still ∙ ap (λ (n : ℕ). getD m (address g x (y + n)) 0) (omega arith))
+  pull-row-turn y w j cur next within hj e len en =
+      en
+      ∙ row-turn g left y j _ m cur (address g (left + j) y) (getD cur (address g x (y + down)) 0) refl e (omega arith) inside
+      (still ∙ ap₂ (λ (n r : ℕ). getD m (address g n (y + r)) 0) (omega arith) (omega arith))
     where
       x : ℕ
-      x = left + (j + right)
+      x = left + j + right
 
-      inside : to < length cur
-      inside = rw et (omega (arith, place-in (left + j) y (omega arith) (omega arith)))
+      inside : address g (left + j) y < length cur
+      inside = omega (arith, place-in (left + j) y (omega arith) (omega arith))
 
-      still : getD cur from 0 ≡ getD m (address g x (y + down)) 0
+      still : getD cur (address g x (y + down)) 0 ≡ getD m (address g x (y + down)) 0
       still =
-          rw ef
-          (rect-elsewhere g (rectAt left y j 1) _ m cur x (y + down) e (omega arith)
-          (place-in x (y + down) (omega arith) (omega arith)) (λ i. omega arith))
+          rect-elsewhere g (rectAt left y j 1) _ m cur x (y + down) e (omega arith)
+          (place-in x (y + down) (omega arith) (omega arith)) (λ i. omega arith)
 
   -- a row taken from rows that the loop has not come to
   pub pull-turn : (top w h r : ℕ) (cur next : List ℕ) → Within g (rectAt left top (w + right) (h + down)) → r < h
