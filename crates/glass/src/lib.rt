@@ -5,10 +5,11 @@ use paper::Module;
 use paper::Span;
 use paper::Spans;
 ghost use mathlib.Core.Path.{_≡_};
-ghost use Prim.Native.Nat.{_≤_, _<_};
+ghost use mathlib.Core.List.{[], _∷_};
+ghost use Prim.Native.Nat.{ℕ, _+_, _≤_, _<_};
 ghost use lib.ListN.{length, getD, set};
 ghost use Rattle.paper.specs.Strokes.{shown, shownAll, refreshed};
-ghost use Rattle.laws_memory.specs.Glass.{Shows, copied};
+ghost use Rattle.laws_memory.specs.Glass.{Shows, copied, copiedFrom};
 
 // How many of a span's columns are visible.
 pub fn shown_of(g: Module, p: Span) -> usize
@@ -43,8 +44,30 @@ pub fn copy_row(g: Module, mem: &[u8], glass: &mut [u8], y: usize, p: Span) -> u
     moved
 }
 
-// Copies each span's visible columns to the glass. The number of bytes copied.
-pub fn refresh(g: Module, mem: &[u8], glass: &mut [u8], spans: Spans) -> usize
+// Copies so many bytes from an address on. The number of bytes copied.
+fn copy_bytes(mem: &[u8], glass: &mut [u8], from: usize, count: usize) -> usize
+    requires { ⌜ ((j : ℕ) → j < count → (from + j < length (now mem)) × (from + j < length (now glass))) ⌝ }
+    ensures { λ n. ⌜ (now (glass .exit) ≡ copiedFrom (now (mem .entry)) from count (now (glass .entry))) × (n ≡ count) ⌝ }
+{
+    let mut moved = 0;
+    for j in 0..count {
+        moved += copy_byte(mem, glass, from + j);
+    }
+    moved
+}
+
+// Copies a span's visible columns of both rows to the glass: their bytes stand side by side. The number of bytes copied.
+fn copy_both(g: Module, mem: &[u8], glass: &mut [u8], p: Span) -> usize
+    requires { ⌜ (g .rows ≡ 2) × Shows g (now mem) (now glass) ⌝ }
+    ensures { λ n. ⌜ (now (glass .exit) ≡ refreshed g (now (mem .entry)) (p ∷ p ∷ []) (now (glass .entry)))
+        × (n ≡ shownAll g (p ∷ p ∷ [])) ⌝ }
+{
+    let first = p.first as usize;
+    copy_bytes(mem, glass, 2 * first, 2 * shown_of(g, p))
+}
+
+// Copies each span's visible columns to the glass, row by row. The number of bytes copied.
+fn copy_rows(g: Module, mem: &[u8], glass: &mut [u8], spans: Spans) -> usize
     requires { ⌜ (2 ≤ g .rows) × Shows g (now mem) (now glass) ⌝ }
     ensures { λ n. ⌜ (now (glass .exit) ≡ refreshed g (now (mem .entry)) spans (now (glass .entry)))
         × (n ≡ shownAll g spans) ⌝ }
@@ -54,4 +77,18 @@ pub fn refresh(g: Module, mem: &[u8], glass: &mut [u8], spans: Spans) -> usize
         moved += copy_row(g, mem, glass, y, spans[y]);
     }
     moved
+}
+
+// Copies each span's visible columns to the glass, those of two rows with the same span at once. The number of bytes copied.
+pub fn refresh(g: Module, mem: &[u8], glass: &mut [u8], spans: Spans) -> usize
+    requires { ⌜ (2 ≤ g .rows) × Shows g (now mem) (now glass) ⌝ }
+    ensures { λ n. ⌜ (now (glass .exit) ≡ refreshed g (now (mem .entry)) spans (now (glass .entry)))
+        × (n ≡ shownAll g spans) ⌝ }
+{
+    let top = spans[0];
+    let bottom = spans[1];
+    if (g.rows == 2) & ((top.first == bottom.first) & (top.end == bottom.end)) {
+        return copy_both(g, mem, glass, top);
+    }
+    copy_rows(g, mem, glass, spans)
 }

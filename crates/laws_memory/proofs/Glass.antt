@@ -1,20 +1,20 @@
 -- The glass: what a refresh makes of it, row by row, and what it counts. Assumes nothing.
 use mathlib.Core.Path.{_≡_, refl, sym, ap, _∙_}
-use mathlib.Core.Bool.{Bool}
+use mathlib.Core.Bool.{Bool, cond}
 use mathlib.Core.List.{List, [], _∷_, _++_}
-use Prim.Native.Nat.{ℕ, zero, suc, _+_, _*_, _<_, _≤_}
+use Prim.Native.Nat.{ℕ, zero, suc, _+_, _*_, _/_, _<_, _≤_}
 use native.Mathlib.Nat.{add-assoc, add-zero, zero-add, le-mul-of-pos-right, mul-comm}
 use native.Mathlib.Numerals.{add-one}
 use native.Mathlib.Omega.{arith}
 use lib.Dec.{T, leb, ltb, leb→le, ltb→lt, le→leb, lt→ltb}
-use lib.ListN.{length, getD, take, length-take, List·getD-eq-default}
-use lib.Seq.{take-suc, getD-take}
+use lib.ListN.{length, getD, set, take, length-set, length-take, List·getD-eq-default}
+use lib.Seq.{take-suc, getD-take, getD-set-same, getD-set-other}
 use Rattle.paper.specs.declared.Module.{Module}
 use Rattle.paper.specs.declared.Span.{Span}
 use Rattle.paper.specs.Panel.{columnOf, rowOf, glassLength}
-use Rattle.paper.specs.Strokes.{rectAt, noSpan, spanHolds, refreshed, shown, shownAll}
-use Rattle.laws_memory.specs.Glass.{Shows, copied}
-use Rattle.laws_memory.proofs.Tests.{test-cases, eq-cases, cond-yes, cond-no, and-i, and-0, and-1}
+use Rattle.paper.specs.Strokes.{among, rectAt, noSpan, spanHolds, refreshed, shown, shownAll}
+use Rattle.laws_memory.specs.Glass.{Shows, copied, copiedFrom}
+use Rattle.laws_memory.proofs.Tests.{Among, test-cases, eq-cases, cond-yes, cond-no, and-i, and-0, and-1, among-facts, among-test}
 use Rattle.laws_memory.proofs.Addresses.{at-place, column-lt}
 use Rattle.laws_memory.proofs.Each.{length-each, getD-each, each-by}
 use Rattle.laws_memory.proofs.Rects.{rect-length, rect-in, rect-out}
@@ -179,6 +179,95 @@ pub refreshed-turn : (g : Module) (m : List ℕ) (ps : List Span) (y : ℕ) (gla
     → length glass ≡ glassLength g → cur ≡ refreshed g m (take y ps) glass → next ≡ copied g m y (getD ps y noSpan) cur
     → next ≡ refreshed g m (take (y + 1) ps) glass
 refreshed-turn g m ps y glass cur next size e e′ = e′ ∙ rw (e, add-one) (refreshed-more g m ps y glass size)
+
+-- ---- bytes side by side
+
+module _ (m : List ℕ) (from : ℕ) (glass : List ℕ) where
+  -- what so many bytes from there on are to be
+  abbrev byteOf : ℕ → ℕ → ℕ → ℕ
+  byteOf count a b = cond (among from count a) (getD m a 0) b
+
+  -- no byte, no change
+  pub bytes-none : glass ≡ copiedFrom m from 0 glass
+  unfolding copiedFrom
+  bytes-none =
+      each-by (byteOf 0) glass glass refl
+      (λ a k. sym (cond-no (among from 0 a) _ _ (λ t. let i = among-facts from 0 a t in omega arith)))
+
+  -- a byte that is one of them, and one that is not
+  same-yes : (n k a b : ℕ) → T (among from n a) → T (among from k a) → byteOf n a b ≡ byteOf k a b
+  same-yes n k a b t u = cond-yes (among from n a) _ _ t ∙ sym (cond-yes (among from k a) _ _ u)
+
+  same-no : (n k a b : ℕ) → (T (among from n a) → ⊥) → (T (among from k a) → ⊥) → byteOf n a b ≡ byteOf k a b
+  same-no n k a b t u = cond-no (among from n a) _ _ t ∙ sym (cond-no (among from k a) _ _ u)
+
+  -- one byte more
+  pub bytes-turn : (count : ℕ) (cur next : List ℕ) → from + count < length glass → cur ≡ copiedFrom m from count glass
+      → next ≡ set cur (from + count) (getD m (from + count) 0) → next ≡ copiedFrom m from (count + 1) glass
+  unfolding copiedFrom
+  bytes-turn count cur next l e e′ = each-by (byteOf (count + 1)) glass next (ap length e′ ∙ length-set cur here _ ∙ len) each-byte
+    where
+      here : ℕ
+      here = from + count
+
+      len : length cur ≡ length glass
+      len = ap length e ∙ length-each (byteOf count) glass
+
+      each-byte : (a : ℕ) → a < length glass → getD next a 0 ≡ byteOf (count + 1) a (getD glass a 0)
+      each-byte a k =
+          ap (λ (t : List ℕ). getD t a 0) e′
+          ∙ eq-cases a here
+          (λ p. rw p (getD-set-same cur here (getD m here 0) 0 (omega (arith, len))
+          ∙ sym (cond-yes (among from (count + 1) here) _ _ (among-test from (count + 1) here (omega arith)))))
+          (λ p. getD-set-other cur here a _ 0 p
+          ∙ ap (λ (t : List ℕ). getD t a 0) e
+          ∙ getD-each (byteOf count) glass a k
+          ∙ test-cases (among from count a)
+          (λ t. let i = among-facts from count a t in same-yes count (count + 1) a _ t (among-test from (count + 1) a (omega arith)))
+          (λ t. same-no count (count + 1) a _ t
+          (λ u. let i = among-facts from (count + 1) a u in t (among-test from count a (omega arith)))))
+
+-- two rows with one span: their bytes stand side by side
+pub refreshed-both : (g : Module) (m : List ℕ) (p : Span) (glass cur : List ℕ) → g .rows ≡ 2 → length glass ≡ glassLength g
+    → cur ≡ copiedFrom m (2 * p .first) (2 * shown g p) glass → cur ≡ refreshed g m (p ∷ p ∷ []) glass
+unfolding copiedFrom
+refreshed-both g m p glass cur two size e =
+    refreshed-by g m (p ∷ p ∷ []) glass cur (ap length e ∙ length-each (byteOf m from glass count) glass)
+    (λ a l h. was a l ∙ cond-yes (among from count a) _ _ (among-test from count a (inside a l h)))
+    (λ a l o. was a l ∙ cond-no (among from count a) _ _ (λ t. o (outside a l (among-facts from count a t))))
+  where
+    from : ℕ
+    from = 2 * p .first
+
+    count : ℕ
+    count = 2 * shown g p
+
+    was : (a : ℕ) → a < length glass → getD cur a 0 ≡ byteOf m from glass count a (getD glass a 0)
+    was a l = ap (λ (t : List ℕ). getD t a 0) e ∙ getD-each (byteOf m from glass count) glass a l
+
+    -- either row has the span
+    own : (y : ℕ) → y < 2 → getD (p ∷ p ∷ []) y noSpan ≡ p
+    own zero h = refl
+    own (suc zero) h = refl
+    own (suc (suc y)) h = absurd (omega arith)
+
+    span-at : (a : ℕ) → getD (p ∷ p ∷ []) (rowOf g a) noSpan ≡ p
+    span-at a = own (rowOf g a) (rw two (omega arith))
+
+    column : (a : ℕ) → columnOf g a ≡ a / 2
+    column a = rw two refl
+
+    visible : (a : ℕ) → a < length glass → a / 2 < g .visible
+    visible a l = omega (arith, column a, column-lt g a (g .visible) (omega arith))
+
+    inside : (a : ℕ) → a < length glass → Covered g (p ∷ p ∷ []) a → Among from count a
+    inside a l h =
+        let held : Holds p (a / 2) = rw (span-at a, column a) at h in
+        let seen = holds-seen g p (a / 2) (visible a l) held in
+        (omega arith, omega arith)
+
+    outside : (a : ℕ) → a < length glass → Among from count a → Covered g (p ∷ p ∷ []) a
+    outside a l i = rw (span-at a, column a) (seen-holds g p (a / 2) (omega arith, omega arith))
 
 -- ---- what a refresh counts
 

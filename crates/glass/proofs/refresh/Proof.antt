@@ -1,73 +1,63 @@
--- `glass::refresh` meets its contract. The loop's invariant: the glass and the count are those of the first y spans.
--- Assumes nothing.
-use mathlib.Core.Path.{_≡_, refl}
-use Prim.Native.Nat.{_≤_, _-_, _*_}
+-- `glass::refresh` meets its contract. Assumes nothing.
 use borrow.Author.Needs.{needs}
+use mathlib.Core.Path.{_≡_, sym, ap, ap₂, _∙_}
+use mathlib.Core.Bool.{true, _&&_}
+use mathlib.Core.List.{List, [], _∷_}
+use Prim.Native.Nat.{ℕ}
 use native.Mathlib.Omega.{arith}
-use lib.ListN.{length, getD, take}
-use lib.Seq.{take-all}
-use Rattle.paper.specs.Strokes.{noSpan, refreshed, shownAll}
-use Rattle.laws_memory.proofs.Glass.{refreshed-none, refreshed-turn, shown-turn, shown-le, visible-small}
+use lib.Dec.{eqb}
+use lib.ListN.{length, getD}
+use borrow.Author.Tests.{eqb-true}
+use Rattle.paper.specs.declared.Module.{Module}
+use Rattle.paper.specs.declared.Span.{Span}
+use Rattle.paper.specs.Strokes.{noSpan, spanOf, refreshed, shownAll}
+use Rattle.laws_memory.proofs.Tests.{and-parts}
 use Rattle.glass.proofs.refresh.Statement.{statement}
 use Rattle.glass.proofs.refresh.Tie as tie
 
-abbrev Inv-loop : tie.InvT-loop
-Inv-loop g mem glass₀ spans moved₀ y₀ glass moved y =
-    (y ≤ 2) × (length spans ≡ 2) × (length glass ≡ length glass₀) × (glass ≡ refreshed g mem (take y spans) glass₀)
-    × (moved ≡ shownAll g (take y spans)) × (moved ≤ y * 65536)
+-- what the test says: two rows, and one span for both
+record Alike (g : Module) (p q : Span) : Type 0 where
+  two : g .rows ≡ 2
+  first : p .first ≡ q .first
+  end : p .end ≡ q .end
 
-abbrev μ-loop : tie.MeasureT-loop
-μ-loop g mem glass₀ spans moved₀ y₀ glass moved y = 2 - y
+alike : (g : Module) (p q : Span)
+    → (eqb (g .rows) 2 && (eqb (p .first) (q .first) && eqb (p .end) (q .end))) ≡ true → Alike g p q
+alike g p q h =
+    let a = and-parts (eqb (g .rows) 2) _ h in
+    let b = and-parts (eqb (p .first) (q .first)) _ (a .1) in
+    record { two = eqb-true _ _ (a .0); first = eqb-true _ _ (b .0); end = eqb-true _ _ (b .1) }
 
-loop-holds : tie.Need-loop-holds Inv-loop μ-loop
-loop-holds c = (omega arith, search needs, refl, refreshed-none _ _ _, refl, omega arith)
+same-spans : (g : Module) (ps : List Span) → length ps ≡ 2 → Alike g (getD ps 0 noSpan) (getD ps 1 noSpan)
+    → getD ps 0 noSpan ∷ getD ps 0 noSpan ∷ [] ≡ ps
+same-spans g [] h a = absurd (omega arith)
+same-spans g (p ∷ []) h a = absurd (omega arith)
+same-spans g (p ∷ q ∷ []) h a = ap (λ (s : Span). p ∷ s ∷ []) (ap₂ spanOf (a .first) (a .end))
+same-spans g (p ∷ q ∷ r ∷ ps) h a = absurd (omega arith)
 
--- what a row adds to the count
-small : (c : tie.After-slice-known2 Inv-loop μ-loop) → c .before .before .copy-row .result ≤ 65536
-small c =
-    let start = c .before .before .before .before .before .before .before .before .before in
-    let head = c .before .before .before .before .before .before .loop in
-    omega (
-      arith,
-      shown-le (start .args .g) (getD (start .args .t4) (head .y) noSpan),
-      visible-small (start .args .g) _ _ (omega arith) (start .pre .1),
-    )
+copy-both-requires : tie.Need-copy-both-requires
+copy-both-requires c κs =
+    let start = c .before .before .before .before .before .before .before .before .before .before .before in
+    let spans = start .args .t4 in
+    (alike (start .args .g) (getD spans 0 noSpan) (getD spans 1 noSpan) (c .before .if1 .taken) .two, start .pre .1)
 
-add-moved : tie.Need-add-moved Inv-loop μ-loop
-add-moved c = omega (arith, small c)
-
-loop-again : tie.Need-loop-again Inv-loop μ-loop
-loop-again c =
-    let copying = c .before .before .copy-row in
-    let head = c .before .before .before .before .before .before .loop in
-    let spans = c .before .before .before .before .before .before .before .before .before .args .t4 in (
-      omega arith,
-      omega arith,
-      omega (arith, copying .kept .1 .1 .0),
-      refreshed-turn _ _ spans (head .y) _ _ _ (omega arith) (head .inv .3) (copying .ensures .0),
-      shown-turn _ spans (head .y) _ _ (omega arith) (head .inv .4) (copying .ensures .1),
-      omega (arith, small c),
-    )
-
-returns : tie.Need-returns Inv-loop μ-loop
+returns : tie.Need-returns
 returns c =
-    let head = c .before .loop in
-    let all = take-all (head .y) (c .before .before .before .before .args .t4) (omega arith) in
-    (rw all at (head .inv .3), rw all at (head .inv .4))
+    let start = c .before .before .before .before .before .before .before .before .before .before .before .before .before .before in
+    let spans = start .args .t4 in
+    let same = same-spans (start .args .g) spans (search needs) (alike (start .args .g) _ _ (c .before .before .before .before .if1 .taken)) in
+    let copying = c .before .before .copy-both .ensures in
+    (rw same at (copying .0), copying .1 ∙ ap (λ (ps : List Span). shownAll (start .args .g) ps) same)
 
 pub refresh-spec : {M : Type 1} → statement M
 refresh-spec =
     tie.close
     (tie.spec
-    Inv-loop
-    μ-loop
-    loop-holds
-    (λ c. omega arith)
-    (λ c. omega arith)
-    (λ c κs. omega arith)
-    add-moved
-    (λ c. omega arith)
-    (λ c. omega arith)
-    loop-again
-    (λ c. omega arith)
-    returns)
+    (λ c. search needs)
+    (λ c. search needs)
+    copy-both-requires
+    (λ c. search needs)
+    returns
+    (λ c κs. search needs)
+    (λ c. search needs)
+    (λ c. search needs))
