@@ -33,8 +33,15 @@ fn put(all: &[u8], run: Run, record: &mut [u8]) -> Run {
     next
 }
 
-// Plays the entry of this kind, whose number was read last. From 7 on it is a call.
-fn play(kind: u8, all: &[u8], r: Run, record: &mut [u8], mem: &mut [u8], glass: &mut [u8]) -> Run {
+// Plays the entry of this kind, below 7, whose number was read last: what the next calls find.
+fn prepare(
+    kind: u8,
+    all: &[u8],
+    r: Run,
+    record: &mut [u8],
+    mem: &mut [u8],
+    glass: &mut [u8],
+) -> Run {
     let n = r.n;
     match kind {
         0 => input::skip(all, r),
@@ -43,7 +50,13 @@ fn play(kind: u8, all: &[u8], r: Run, record: &mut [u8], mem: &mut [u8], glass: 
         3 => Run { font: n, ..r },
         4 => Run { glass: n, ..r },
         5 => begin(r, record, mem, glass),
-        6 => put(all, r, record),
+        _ => put(all, r, record),
+    }
+}
+
+// Makes the call of this kind, from 7 on, whose number was read last.
+fn call(kind: u8, all: &[u8], r: Run, record: &mut [u8], mem: &mut [u8], glass: &mut [u8]) -> Run {
+    match kind {
         7 => calls::start(all, r, record, mem),
         8 => calls::feed(all, r, record, mem),
         9 => calls::hold(all, r, record),
@@ -62,11 +75,17 @@ fn play_next(all: &[u8], run: Run, record: &mut [u8], mem: &mut [u8], glass: &mu
     }
     let one = input::byte(all, run);
     let kind = one.n as u8;
-    let r = play(kind, all, input::number(all, one), record, mem, glass);
+    let r = input::number(all, one);
     if kind < 7 {
-        return r;
+        return prepare(kind, all, r, record, mem, glass);
     }
-    calls::hold_sums(all, r, record, mem, glass)
+    calls::hold_sums(
+        all,
+        call(kind, all, r, record, mem, glass),
+        record,
+        mem,
+        glass,
+    )
 }
 
 // Plays all entries: there are no more of them than bytes.
