@@ -1,4 +1,5 @@
 pub mod Same
 pub mod Stands
 pub mod Back
+mod Written
 mod Idle

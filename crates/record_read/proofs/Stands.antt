@@ -1,19 +1,41 @@
 -- What a record stands for, by the test of its bytes. Assumes nothing.
 use Prim.Native.Nat.{ℕ}
-use mathlib.Core.Path.{_≡_}
+use mathlib.Core.Path.{_≡_, ap, _∙_}
 use mathlib.Core.Bool.{Bool, true, false}
 use mathlib.Core.List.{List}
+use Rattle.paper.specs.declared.Half.{Half}
+use Rattle.paper.specs.declared.Hold.{Hold}
+use Rattle.paper.specs.declared.Hold.the-variants.{Free}
+use Rattle.paper.specs.declared.Half.the-variants.{Nothing}
 use Rattle.paper.specs.declared.State.{State}
+use Rattle.paper.specs.Settings.{withHold, withHalf}
+use Rattle.record_half.specs.declared.Slots.{Slots}
+use Rattle.record_half.specs.Slots.{halfOf}
 use Rattle.record_write.specs.Bytes.{encoded}
-use Rattle.record_read.specs.Record.{decoded, same, broken, stateOf}
+use Rattle.record_read.specs.Record.{holdAt, slotsAt, decodedWith, decoded, same, broken, stateOf}
 
-module _ (l : List ℕ) {again : List ℕ} {s : State} {t : Bool} (d : s ≡ decoded l) (e : again ≡ encoded s) (f : t ≡ same again l) where
+module _ (l : List ℕ) {s : State} {t : Bool} (d : s ≡ decoded l) (e : t ≡ same (encoded s) l) where
   -- the bytes of its state are the record's
   pub stands : t ≡ true → s ≡ stateOf l
   unfolding stateOf
-  stands g = rw (← d, ← e, ← f, g)
+  stands g = rw (← d, ← e, g)
 
   -- they are others
   pub stands-broken : t ≡ false → broken s ≡ stateOf l
   unfolding stateOf
-  stands-broken g = rw (← d, ← e, ← f, g)
+  stands-broken g = rw (← d, ← e, g)
+
+-- the record read with nothing held or half read, and then what is
+module _
+    (l : List ℕ) {s : State} {hold : Hold} {half : Half} {slots : Slots} {t : Bool}
+    (d : s ≡ decodedWith l Free Nothing) (h : hold ≡ holdAt l 69) (p : half ≡ halfOf slots) (q : slots ≡ slotsAt l 83)
+    (e : t ≡ same (encoded (decodedWith l hold half)) l) where
+  read : decodedWith l hold half ≡ decoded l
+  unfolding decoded
+  read = rw (h, p, q)
+
+  pub busy-stands : t ≡ true → withHalf (withHold s hold) half ≡ stateOf l
+  busy-stands g = ap (λ (s : State). withHalf (withHold s hold) half) d ∙ stands l read e g
+
+  pub busy-stands-broken : t ≡ false → broken (withHalf (withHold s hold) half) ≡ stateOf l
+  busy-stands-broken g = ap (λ (s : State). broken (withHalf (withHold s hold) half)) d ∙ stands-broken l read e g

@@ -1,5 +1,5 @@
 -- The state that a record of 103 bytes stands for. docs/RECORD.md has the layout. Assumes nothing.
-use Prim.Native.Nat.{ℕ, _+_, _*_, _<_, _≤_}
+use Prim.Native.Nat.{ℕ, zero, suc, _+_, _*_, _<_, _≤_}
 use mathlib.Core.Path.{_≡_}
 use mathlib.Core.Bool.{Bool, true, false, cond, _&&_}
 use mathlib.Core.List.{List, [], _∷_}
@@ -19,6 +19,11 @@ use Rattle.record_half.specs.Slots.{slots, halfOf}
 use Rattle.record_write.specs.Bytes.{encoded}
 
 -- ---- any bytes, read by their places
+
+-- n bytes from place i on
+abbrev pub reads : ℕ → ℕ → List ℕ → List ℕ
+reads zero i l = []
+reads (suc n) i l = getD l i 0 ∷ reads n (suc i) l
 
 -- a 16-bit number is two bytes, low byte first
 abbrev pub wordAt : List ℕ → ℕ → ℕ

@@ -4,8 +4,8 @@ ghost use mathlib.Core.Path.{_≡_};
 ghost use mathlib.Core.Bool.{true};
 ghost use Prim.Native.Nat.{_+_, _≤_};
 ghost use lib.ListN.{length};
-ghost use Rattle.record_write.specs.Bytes.{recordLength};
-ghost use Rattle.record_read.specs.Record.{wordAt, settingsAt, cursorAt, windowFrom, spanAt, holdAt, slotsAt, decodedWith, Idle, same, stateOf};
+ghost use Rattle.record_write.specs.Bytes.{recordLength, encoded};
+ghost use Rattle.record_read.specs.Record.{wordAt, settingsAt, cursorAt, windowFrom, spanAt, holdAt, slotsAt, decodedWith, reads, Idle, same, stateOf};
 use paper::Cursor;
 use paper::Half;
 use paper::Hold;
@@ -146,16 +146,26 @@ fn decode_with(l: &[u8], hold: Hold, half: Half) -> State
 
 // ---- the state that a record stands for
 
-// Whether two records are the same.
-fn is_same(a: &[u8], b: &[u8]) -> bool
-    requires { ⌜ length (now a) ≡ length (now b) ⌝ }
-    ensures { λ r. ⌜ r ≡ same (now (a .entry)) (now (b .entry)) ⌝ }
+// Whether a part of a record, from `at` on, is these bytes.
+fn is_at(a: &[u8], l: &[u8], at: usize) -> bool
+    requires { ⌜ at + length (now a) ≤ length (now l) ⌝ }
+    ensures { λ r. ⌜ r ≡ same (now (a .entry)) (reads (length (now (a .entry))) at (now (l .entry))) ⌝ }
 {
     let mut r = true;
     for i in 0..a.len() {
-        r = r & (a[i] == b[i]);
+        r = r & (a[i] == l[at + i]);
     }
     r
+}
+
+// Whether a record is the one of its state, with this held and this half read: only their bytes can be others.
+fn is_written(l: &[u8], hold: Hold, half: Half) -> bool
+    requires { ⌜ length (now l) ≡ recordLength ⌝ }
+    ensures { λ r. ⌜ r ≡ same (encoded (decodedWith (now (l .entry)) hold half)) (now (l .entry)) ⌝ }
+{
+    let held = record_write::hold_bytes(hold);
+    let read = record_write::slot_bytes(record_half::half_slots(half));
+    is_at(&held, l, 69) & is_at(&read, l, 83)
 }
 
 // Whether the bytes of what is held and of what is half read are all 0.
@@ -170,31 +180,25 @@ fn is_idle(l: &[u8]) -> bool
     r
 }
 
-// The state that a record stands for, with something held or half read: the record is compared with that state's own.
-fn busy_state_of(l: &[u8]) -> State
-    requires { ⌜ length (now l) ≡ recordLength ⌝ }
-    ensures { λ s. ⌜ s ≡ stateOf (now (l .entry)) ⌝ }
-{
-    let hold = hold_at(l, 69);
-    let half = record_half::half_of(slots_at(l, 83));
-    let mut s = decode_with(l, hold, half);
-    let mut again = [0u8; 103];
-    record_write::encode(s, &mut again);
-    if is_same(&again, l) {
-        return s;
-    }
-    s.selected = 5;
-    s
-}
-
 // The state that a record stands for: bytes that no state is encoded by stand for a broken one, which every call refuses. With nothing
 // held or half read there are no such bytes.
 pub fn state_of(l: &[u8]) -> State
     requires { ⌜ length (now l) ≡ recordLength ⌝ }
     ensures { λ s. ⌜ s ≡ stateOf (now (l .entry)) ⌝ }
 {
+    let s = decode_with(l, Hold::Free, Half::Nothing);
     if is_idle(l) {
-        return decode_with(l, Hold::Free, Half::Nothing);
+        return s;
     }
-    busy_state_of(l)
+    let hold = hold_at(l, 69);
+    let half = record_half::half_of(slots_at(l, 83));
+    if is_written(l, hold, half) {
+        return State { hold, half, ..s };
+    }
+    State {
+        hold,
+        half,
+        selected: 5,
+        ..s
+    }
 }

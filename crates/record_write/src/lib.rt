@@ -70,7 +70,7 @@ fn base_bytes(k: Cursor, selected: u8) -> [u8; 6]
 }
 
 // What is held.
-fn hold_bytes(hold: Hold) -> [u8; 14]
+pub fn hold_bytes(hold: Hold) -> [u8; 14]
     ensures { λ r. ⌜ r ≡ holdBytes hold ⌝ }
 {
     match hold {
@@ -102,7 +102,7 @@ fn hold_bytes(hold: Hold) -> [u8; 14]
 }
 
 // What is half read, laid flat.
-fn slot_bytes(t: Slots) -> [u8; 12]
+pub fn slot_bytes(t: Slots) -> [u8; 12]
     ensures { λ r. ⌜ r ≡ slotBytes t ⌝ }
 {
     [
