@@ -1,21 +1,66 @@
 -- A call's steps (the record read, the panel's call, its number, the record written) give what the definition of the call says.
--- Assumes nothing.
+-- A refresh writes the spans alone, and that is the whole record. Assumes nothing.
 use Prim.Native.Nat.{ℕ}
-use mathlib.Core.Path.{_≡_, ap}
+use mathlib.Core.Path.{_≡_, refl, sym, ap, subst, _∙_}
+use mathlib.Core.Bool.{true, cond, not}
 use mathlib.Core.List.{List}
 use lib.ListN.{length}
-use borrow.Author.Tests.{eq-eqb, ne-eqb}
+use borrow.Author.Tests.{eq-eqb, ne-eqb, not-false}
 use Rattle.paper.specs.declared.Answer.{Answer}
 use Rattle.paper.specs.declared.Fed.{Fed}
 use Rattle.paper.specs.declared.Refreshed.{Refreshed}
+use Rattle.paper.specs.declared.Refusal.{Refusal}
+use Rattle.paper.specs.declared.Refusal.the-variants.{Accepted}
 use Rattle.paper.specs.declared.State.{State}
-use Rattle.paper.specs.Panel.{panel}
+use Rattle.paper.specs.Panel.{panel, memoryLength, glassLength}
+use Rattle.paper.specs.Strokes.{noSpans, refreshed, shownAll}
 use Rattle.paper.specs.Numbers.{refusalNumber, outcomeNumber}
-use Rattle.paper.specs.Calls.{startCall, feedCall, holdCall, releaseCall, refreshCall}
+use Rattle.paper.specs.Bounds.{accepted}
+use Rattle.paper.specs.Calls as paper
+use Rattle.paper.specs.Calls.{isNot, isAccepted, startCall, feedCall, holdCall, releaseCall, Refreshing, emptied, refreshRefusal, refreshCall}
 use Rattle.laws_state.specs.Told as told
-use Rattle.record_write.specs.Bytes.{recordLength, encoded}
+use Rattle.laws_state.proofs.Tests.{by-cond}
+use Rattle.record_write.specs.Bytes.{recordLength, spansInto, encoded}
+use Rattle.record_write.proofs.Laid.{spans-into}
 use Rattle.record_read.specs.Record.{stateOf}
-use Rattle.panel_c.specs.Face.{wrongLength, recordAfter, starting, startingC, startC, fed, feeding, feedingC, feedC, calling, callingC, holdC, releaseC, moved, refreshing, refreshingC, refreshC}
+use Rattle.record_read.proofs.Back.{accepted-record}
+use Rattle.panel_c.specs.Face.{wrongLength, recordAfter, spansAfter, starting, startingC, startC, fed, feeding, feedingC, feedC, calling, callingC, holdC, releaseC, moved, refreshing, refreshingC, refreshC}
+
+-- ---- a refresh changes the spans alone
+
+-- of what a refresh gave: its spans written into the record give the record that it leaves
+abbrev SpansOnly : List ℕ → Refreshing → Type 0
+SpansOnly l q =
+    spansAfter (refusalNumber (q .answer .refusal)) (q .answer .state .spans) l
+    ≡ recordAfter (refusalNumber (q .answer .refusal)) (q .answer .state) l
+
+module _ (l m glass : List ℕ) where
+  abbrev s : State
+  s = stateOf l
+
+  -- an accepted record is its state's own, and before the spans the state with both empty has the same bytes
+  emptied-only : accepted panel s ≡ true → spansInto l (noSpans panel) ≡ encoded (emptied panel s)
+  unfolding emptied
+  emptied-only h =
+      ap (λ (x : List ℕ). spansInto x (noSpans panel)) (accepted-record panel l h) ∙ spans-into s (noSpans panel)
+
+  -- what a refresh with this refusal gives
+  abbrev by : Refusal → Refreshing
+  by r =
+      cond (isAccepted r)
+      (paper.refreshing Accepted (emptied panel s) (shownAll panel (s .spans)) (refreshed panel m (s .spans) glass))
+      (paper.refreshing r s 0 glass)
+
+  abbrev By : Refusal → Type 0
+  By r = SpansOnly l (by r)
+
+  -- one that is refused leaves the record, and one that is not was given an accepted record
+  spans-only : SpansOnly l (refreshCall panel s m glass)
+  unfolding refreshCall refreshRefusal isAccepted emptied refusalNumber spansAfter recordAfter
+  spans-only =
+      by-cond By (isNot (memoryLength panel) m) (λ _. refl)
+      (λ _. by-cond By (isNot (glassLength panel) glass) (λ _. refl)
+      (λ _. by-cond By (not (accepted panel s)) (λ _. refl) (λ h. emptied-only (not-false (accepted panel s) h))))
 
 module _ (l : List ℕ) where
   -- ---- a record of another length
@@ -68,7 +113,10 @@ module _ (l : List ℕ) where
       release-told a e f g = rw (eq-eqb (length l) recordLength h, g, f, ← r) (ap (callingC l) e)
 
       pub refresh-told : (m glass glass′ : List ℕ) (a : Refreshed) → told.refreshed a glass′ ≡ refreshCall panel s m glass
-          → n ≡ refusalNumber (a .refusal) → l′ ≡ recordAfter n (a .state) l
+          → n ≡ refusalNumber (a .refusal) → l′ ≡ spansAfter n (a .state .spans) l
           → refreshing (moved n (a .moved)) l′ glass′ ≡ refreshC l m glass
       unfolding refreshC
-      refresh-told m glass glass′ a e f g = rw (eq-eqb (length l) recordLength h, g, f, ← r) (ap (refreshingC l) e)
+      refresh-told m glass glass′ a e f g =
+          let call = e ∙ ap (λ (x : State). refreshCall panel x m glass) r in
+          let same = subst (SpansOnly l) (sym call) (spans-only l m glass) in
+          rw (eq-eqb (length l) recordLength h, g, f, same) (ap (refreshingC l) call)

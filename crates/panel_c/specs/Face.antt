@@ -6,11 +6,12 @@ use mathlib.Core.List.{List}
 use lib.Dec.{eqb}
 use Rattle.paper.specs.declared.Answer.{Answer}
 use Rattle.paper.specs.declared.Fed.{Fed}
+use Rattle.paper.specs.declared.Span.{Span}
 use Rattle.paper.specs.declared.State.{State}
 use Rattle.paper.specs.Panel.{panel}
 use Rattle.paper.specs.Numbers.{refusalNumber, outcomeNumber}
 use Rattle.paper.specs.Calls.{isNot, Starting, startCall, Feeding, feedCall, holdCall, releaseCall, Refreshing, refreshCall}
-use Rattle.record_write.specs.Bytes.{recordLength, encoded}
+use Rattle.record_write.specs.Bytes.{recordLength, spansInto, encoded}
 use Rattle.record_read.specs.Record.{stateOf}
 use Rattle.panel_c.specs.declared.PanelFed.{PanelFed}
 use Rattle.panel_c.specs.declared.PanelRefreshed.{PanelRefreshed}
@@ -22,6 +23,10 @@ wrongLength = 100
 -- "nothing in the state changes" unless the answer is 0: the record that a call leaves
 unfoldable pub recordAfter : ℕ → State → List ℕ → List ℕ
 recordAfter n s l = cond (eqb n 0) (encoded s) l
+
+-- the same with only the spans written, which is all that a refresh changes (`spans-only` in proofs/Calls)
+unfoldable pub spansAfter : ℕ → List Span → List ℕ → List ℕ
+spansAfter n ps l = cond (eqb n 0) (spansInto l ps) l
 
 -- ---- start
 

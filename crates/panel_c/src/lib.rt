@@ -2,11 +2,12 @@
 // It may use the panel's calls, record_read and record_write for the record, numbers for the answers. include/panel.h declares it.
 // Each contract is one line: what a call answers and leaves is the definition of that call in specs/Face.antt.
 use paper::Refusal;
+use paper::Spans;
 use paper::State;
 ghost use mathlib.Core.Path.{_≡_};
 ghost use lib.ListN.{length};
 ghost use Rattle.record_write.specs.Bytes.{recordLength};
-ghost use Rattle.panel_c.specs.Face.{recordAfter, starting, startC, feeding, feedC, calling, holdC, releaseC, refreshing, refreshC};
+ghost use Rattle.panel_c.specs.Face.{recordAfter, spansAfter, starting, startC, feeding, feedC, calling, holdC, releaseC, refreshing, refreshC};
 
 // The length of a record, and the answer to a record of another length: no number of document 01.
 const RECORD: usize = 103;
@@ -36,6 +37,16 @@ fn keep(answer: u32, s: State, to: &mut [u8])
 {
     if answer == 0 {
         record_write::encode(s, to);
+    }
+}
+
+// Writes the spans that a refresh gave, if its answer is 0: a refresh changes nothing else in the state.
+fn keep_spans(answer: u32, spans: Spans, to: &mut [u8])
+    requires { ⌜ length (now to) ≡ recordLength ⌝ }
+    ensures { λ r. ⌜ now (to .exit) ≡ spansAfter answer spans (now (to .entry)) ⌝ }
+{
+    if answer == 0 {
+        record_write::put_spans(spans, to);
     }
 }
 
@@ -137,9 +148,10 @@ pub extern "C" fn panel_refresh(state: &mut [u8], mem: &[u8], glass: &mut [u8]) 
     let s = record_read::state_of(state);
     let r = panel::refresh(mem, glass, s);
     let emptied = r.state;
+    let spans = emptied.spans;
     let refusal = r.refusal;
     let answer = numbers::refusal_number(refusal);
-    keep(answer, emptied, state);
+    keep_spans(answer, spans, state);
     PanelRefreshed {
         answer,
         moved: r.moved,

@@ -1,16 +1,22 @@
--- A record's parts, put one after the other, are the record. Assumes nothing.
+-- A record's parts, put one after the other, are the record; other spans change its end alone. Assumes nothing.
 use Prim.Native.Nat.{ℕ, suc, _+_, _<_, _≤_}
 use mathlib.Core.Path.{_≡_, refl, sym, ap, _∙_}
 use mathlib.Core.List.{List, [], _++_, append-assoc, append-nil}
-use lib.ListN.{length, getD, set, take, length-append}
+use lib.ListN.{length, getD, set, take, length-append, length-take}
 use lib.Seq.{take-all, take-suc, take-suc-set}
 use native.Mathlib.Omega.{arith}
 use native.Mathlib.Nat.{add-zero, zero-add, add-assoc}
 use native.Mathlib.Numerals.{add-one}
+use Rattle.paper.specs.declared.Settings.{Settings}
+use Rattle.paper.specs.declared.Cursor.{Cursor}
+use Rattle.paper.specs.declared.Window.{Window}
+use Rattle.paper.specs.declared.Span.{Span}
+use Rattle.paper.specs.declared.Half.{Half}
 use Rattle.paper.specs.declared.Hold.{Hold}
 use Rattle.paper.specs.declared.Hold.the-variants.{Free, Held}
 use Rattle.paper.specs.declared.State.{State}
-use Rattle.record_write.specs.Bytes.{holdBytes, windowsBytes, tailBytes, encoded}
+use Rattle.paper.specs.Settings.{makeState, withSpans}
+use Rattle.record_write.specs.Bytes.{holdBytes, windowsBytes, spansInto, tailBytes, encoded}
 use Rattle.record_write.specs.Parts.{Put}
 
 -- ---- a part, byte by byte
@@ -49,6 +55,16 @@ after {at} {next} {l} {m} {r} {a} {b} e p q =
 pub whole : {l r x : List ℕ} (n : ℕ) → length r ≡ n → length x ≡ n → Put 0 l r x → r ≡ x
 whole {l} {r} {x} n e f p = sym (take-all (length x) r (omega arith)) ∙ rw zero-add at (p .said)
 
+-- a part that ends the record: what was before it, and the part
+pub ended : {at : ℕ} {l r x : List ℕ} → length r ≡ at + length x → Put at l r x → r ≡ take at l ++ x
+ended {at} {l} {r} {x} e p = sym (take-all (at + length x) r (omega arith)) ∙ p .said
+
+-- and back
+pub ends : {at : ℕ} {l r x : List ℕ} → r ≡ take at l ++ x → Put at l r x
+ends {at} {l} {r} {x} e =
+    let n : length r ≡ length (take at l) + length x = ap length e ∙ length-append (take at l) x in
+    record { said = take-all (at + length x) r (omega (arith, n, length-take at l)) ∙ e }
+
 -- ---- lengths
 
 pub hold-length : (h : Hold) → length (holdBytes h) ≡ 14
@@ -63,3 +79,16 @@ tail-length s = rw (length-append (holdBytes (s .hold)), hold-length (s .hold))
 pub encoded-length : (s : State) → length (encoded s) ≡ 103
 unfolding encoded windowsBytes
 encoded-length s = rw (tail-length s)
+
+-- ---- the spans
+
+-- what stands after the hold is found by taking the hold apart
+spans-last : (v : Settings) (ws : List Window) (k : Cursor) (n : ℕ) (h : Hold) (p : Half) (ps qs : List Span)
+    → spansInto (encoded (makeState v ws k n h p ps)) qs ≡ encoded (makeState v ws k n h p qs)
+unfolding encoded windowsBytes tailBytes holdBytes
+spans-last v ws k n Free p ps qs = refl
+spans-last v ws k n (Held a b u) p ps qs = refl
+
+-- a state's record with other spans is the record of the state with these
+pub spans-into : (s : State) (ps : List Span) → spansInto (encoded s) ps ≡ encoded (withSpans s ps)
+spans-into s ps = spans-last (s .settings) (s .windows) (s .base) (s .selected) (s .hold) (s .half) (s .spans) ps

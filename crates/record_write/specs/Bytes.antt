@@ -1,7 +1,7 @@
 -- The state as a record of 103 bytes, for C. docs/RECORD.md has the same as a table. Assumes nothing.
 use Prim.Native.Nat.{ℕ, _/_, _%_}
 use mathlib.Core.List.{List, [], _∷_, _++_}
-use lib.ListN.{getD, replicate}
+use lib.ListN.{getD, take, replicate}
 use Rattle.paper.specs.declared.Settings.{Settings}
 use Rattle.paper.specs.declared.Cursor.{Cursor}
 use Rattle.paper.specs.declared.Window.{Window}
@@ -88,6 +88,10 @@ spanBytes p = low (p .first) ∷ high (p .first) ∷ low (p .end) ∷ high (p .e
 
 abbrev pub spansBytes : List Span → List ℕ
 spansBytes ps = spanBytes (getD ps 0 noSpan) ++ spanBytes (getD ps 1 noSpan)
+
+-- a record with these spans: the bytes before them stay as they are
+abbrev pub spansInto : List ℕ → List Span → List ℕ
+spansInto l ps = take 95 l ++ spansBytes ps
 
 -- what follows the windows
 unfoldable pub tailBytes : State → List ℕ

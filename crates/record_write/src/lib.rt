@@ -4,7 +4,7 @@ ghost use mathlib.Core.Path.{_≡_};
 ghost use Prim.Native.Nat.{_+_, _≤_};
 ghost use lib.ListN.{length};
 ghost use Rattle.record_write.specs.Parts.{Put};
-ghost use Rattle.record_write.specs.Bytes.{recordLength, settingsBytes, windowBytes, windowsBytes, baseBytes, holdBytes, slotBytes, spansBytes, tailBytes, encoded};
+ghost use Rattle.record_write.specs.Bytes.{recordLength, settingsBytes, windowBytes, windowsBytes, baseBytes, holdBytes, slotBytes, spansBytes, spansInto, tailBytes, encoded};
 use paper::Cursor;
 use paper::Hold;
 use paper::Settings;
@@ -164,6 +164,15 @@ fn put_windows(ws: [Window; 4], to: &mut [u8])
     put(&d, to, 50);
 }
 
+// Writes the spans into a record, which they end, and leaves all before them.
+pub fn put_spans(ps: Spans, to: &mut [u8])
+    requires { ⌜ length (now to) ≡ recordLength ⌝ }
+    ensures { λ r. ⌜ now (to .exit) ≡ spansInto (now (to .entry)) ps ⌝ }
+{
+    let a = spans_bytes(ps);
+    put(&a, to, 95);
+}
+
 // Puts what follows the windows.
 fn put_tail(s: State, to: &mut [u8])
     requires { ⌜ length (now to) ≡ recordLength ⌝ }
@@ -179,8 +188,7 @@ fn put_tail(s: State, to: &mut [u8])
     put(&b, to, 69);
     let c = slot_bytes(record_half::half_slots(half));
     put(&c, to, 83);
-    let d = spans_bytes(spans);
-    put(&d, to, 95);
+    put_spans(spans, to);
 }
 
 // Writes a state as a record.

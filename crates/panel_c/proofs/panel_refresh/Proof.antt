@@ -14,7 +14,7 @@ returns-2 : tie.Need-returns-2
 returns-2 c =
     let k = c .before .before in
     let n = k .before .before in
-    let a = n .before .before .before .before in
+    let a = n .before .before .before .before .before in
     let r = a .before .before in
     let i = r .before .before in
     let start = i .before .before .before .before in
@@ -22,7 +22,7 @@ returns-2 c =
     (now (start .args .mem)) (now (start .args .glass)) _ _
     (a .refresh .ensures)
     (n .refusal-number .ensures)
-    (k .keep .ensures)
+    (k .keep-spans .ensures)
 
 pub panel-refresh-spec : {M : Type 1} → statement M
 panel-refresh-spec =

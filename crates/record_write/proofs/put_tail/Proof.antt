@@ -5,14 +5,14 @@ use native.Mathlib.Omega.{arith}
 use mathlib.Core.Path.{refl, ap, _∙_}
 use borrow.Author.Needs.{needs}
 use Rattle.record_write.specs.Bytes.{slotBytes, tailBytes}
-use Rattle.record_write.proofs.Laid.{known, after, hold-length}
+use Rattle.record_write.proofs.Laid.{known, after, ends, hold-length}
 use Rattle.record_write.proofs.put_tail.Statement.{statement}
 use Rattle.record_write.proofs.put_tail.Tie as tie
 
 -- no put has changed the record's length
-put-requires-4 : tie.Need-put-requires-4
-put-requires-4 c κs =
-    let half = c .before .before .before .before .before in
+put-spans-requires : tie.Need-put-spans-requires
+put-spans-requires c κs =
+    let half = c .before .before .before in
     let hold = half .before .before .before .before .before .before .before in
     let base = hold .before .before .before .before .before .before in
     omega (
@@ -27,7 +27,7 @@ returns : tie.Need-returns
 unfolding tailBytes
 returns c =
     let spans = c .before .before in
-    let half = spans .before .before .before .before .before .before in
+    let half = spans .before .before .before .before in
     let hold = half .before .before .before .before .before .before .before in
     let base = hold .before .before .before .before .before .before in
     let flat = half .before .before .before in
@@ -36,7 +36,7 @@ returns c =
     (after (ap (λ (n : ℕ). 69 + n) (hold-length _))
     (known (hold .before .before .before .hold-bytes .ensures) (hold .put2 .ensures))
     (after refl (known slots (half .put3 .ensures))
-    (known (spans .before .before .before .spans-bytes .ensures) (spans .put4 .ensures))))
+    (ends (spans .put-spans .ensures))))
 
 pub put-tail-spec : {M : Type 1} → statement M
 put-tail-spec =
@@ -52,8 +52,6 @@ put-tail-spec =
     (λ c κs. tt)
     (λ c. search needs)
     (λ c κs. search needs)
-    (λ c κs. tt)
-    (λ c. search needs)
-    put-requires-4
+    put-spans-requires
     (λ c. search needs)
     returns)
