@@ -2,9 +2,9 @@
 -- Assumes nothing.
 use Prim.Native.Nat.{ℕ, _+_}
 use native.Mathlib.Omega.{arith}
-use mathlib.Core.Path.{refl, ap, _∙_}
+use mathlib.Core.Path.{refl, ap}
 use borrow.Author.Needs.{needs}
-use Rattle.record_write.specs.Bytes.{slotBytes, tailBytes}
+use Rattle.record_write.specs.Bytes.{tailBytes}
 use Rattle.record_write.proofs.Laid.{known, after, ends, hold-length}
 use Rattle.record_write.proofs.put_tail.Statement.{statement}
 use Rattle.record_write.proofs.put_tail.Tie as tie
@@ -13,7 +13,7 @@ use Rattle.record_write.proofs.put_tail.Tie as tie
 put-spans-requires : tie.Need-put-spans-requires
 put-spans-requires c κs =
     let half = c .before .before .before in
-    let hold = half .before .before .before .before .before .before .before in
+    let hold = half .before .before .before .before .before .before in
     let base = hold .before .before .before .before .before .before in
     omega (
       arith,
@@ -28,10 +28,9 @@ unfolding tailBytes
 returns c =
     let spans = c .before .before in
     let half = spans .before .before .before .before in
-    let hold = half .before .before .before .before .before .before .before in
+    let hold = half .before .before .before .before .before .before in
     let base = hold .before .before .before .before .before .before in
-    let flat = half .before .before .before in
-    let slots = flat .slot-bytes .ensures ∙ ap slotBytes (flat .before .half-slots .ensures) in
+    let slots = half .before .before .before .half-bytes .ensures in
     after refl (known (base .before .before .before .base-bytes .ensures) (base .put .ensures))
     (after (ap (λ (n : ℕ). 69 + n) (hold-length _))
     (known (hold .before .before .before .hold-bytes .ensures) (hold .put2 .ensures))
@@ -48,7 +47,6 @@ put-tail-spec =
     (λ c κs. tt)
     (λ c. search needs)
     (λ c κs. search needs)
-    (λ c κs. tt)
     (λ c κs. tt)
     (λ c. search needs)
     (λ c κs. search needs)
