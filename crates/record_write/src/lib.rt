@@ -3,9 +3,11 @@
 ghost use mathlib.Core.Path.{_≡_};
 ghost use Prim.Native.Nat.{_+_, _≤_};
 ghost use lib.ListN.{length};
+ghost use Rattle.record_half.specs.Slots.{halfSlots};
 ghost use Rattle.record_write.specs.Parts.{Put};
 ghost use Rattle.record_write.specs.Bytes.{recordLength, settingsBytes, windowBytes, windowsBytes, baseBytes, holdBytes, slotBytes, spansBytes, spansInto, tailBytes, encoded};
 use paper::Cursor;
+use paper::Half;
 use paper::Hold;
 use paper::Settings;
 use paper::Spans;
@@ -121,6 +123,16 @@ pub fn slot_bytes(t: Slots) -> [u8; 12]
     ]
 }
 
+// What is half read. Most often nothing is, and that takes no way over the slots.
+fn half_bytes(half: Half) -> [u8; 12]
+    ensures { λ r. ⌜ r ≡ slotBytes (halfSlots half) ⌝ }
+{
+    match half {
+        Half::Nothing => [0; 12],
+        _ => slot_bytes(record_half::half_slots(half)),
+    }
+}
+
 // The spans of the two rows.
 fn spans_bytes(ps: Spans) -> [u8; 8]
     ensures { λ r. ⌜ r ≡ spansBytes ps ⌝ }
@@ -186,7 +198,7 @@ fn put_tail(s: State, to: &mut [u8])
     put(&a, to, 63);
     let b = hold_bytes(hold);
     put(&b, to, 69);
-    let c = slot_bytes(record_half::half_slots(half));
+    let c = half_bytes(half);
     put(&c, to, 83);
     put_spans(spans, to);
 }
