@@ -74,14 +74,13 @@ fn pull_row(
     requires { ⌜ Within g (rectAt left y (width + right) (1 + down)) × Fits g (now mem) ⌝ }
     ensures { λ _. ⌜ now (mem .exit) ≡ pulled g (rectAt left y width 1) right down (now (mem .entry)) ⌝ }
 {
-    let mut j = 0;
-    while 1 < width - j {
+    for k in 0..width / 2 {
+        let j = 2 * k;
         pull_one(g, mem, left + j, y, right, down);
         pull_one(g, mem, left + (j + 1), y, right, down);
-        j += 2;
     }
-    if j < width {
-        pull_one(g, mem, left + j, y, right, down);
+    if width % 2 == 1 {
+        pull_one(g, mem, left + (width - 1), y, right, down);
     }
 }
 

@@ -20,6 +20,19 @@ abbrev pub placeAfter : ℕ → ℕ → ℕ → Place
 placeAfter height column row =
     record { column = cond (ltb (row + 1) height) column (column + 1); row = cond (ltb (row + 1) height) (row + 1) 0 }
 
+-- what of a range lies right of its cursor and below, with the cursor at its top left
+abbrev pub fromCursor : View → View
+fromCursor v =
+    record {
+      left = v .left + v .x;
+      top = v .top + v .y;
+      width = v .width - v .x;
+      height = v .height - v .y;
+      x = 0;
+      y = 0;
+      mode = v .mode;
+    }
+
 -- the columns a to b of an image's row r, as far as they lie in the range above its row `bottom`, are marked
 unfoldable pub rowMark : View → ℕ → ℕ → ℕ → ℕ → List Span → List Span
 rowMark v bottom r a b ps =

@@ -15,7 +15,7 @@ ghost use Rattle.paper.specs.Strokes.{applyAll};
 ghost use Rattle.paper.specs.Carry.{imageStrokes};
 ghost use Rattle.laws_memory.specs.Rectangles.{Fits};
 ghost use Rattle.laws_state.specs.Room.{Usable, InMemory};
-ghost use Rattle.runs_images.specs.Images.{placeAfter, rowMark, filledTo, Stocked};
+ghost use Rattle.runs_images.specs.Images.{placeAfter, fromCursor, rowMark, filledTo, Stocked};
 
 // The place of an image's byte.
 struct Place {
@@ -37,6 +37,23 @@ fn place_after(height: u16, column: u16, row: u16) -> Place
     Place {
         column: column + 1,
         row: 0,
+    }
+}
+
+// What of a range lies right of its cursor and below, with the cursor at its top left: an image is stored there alike, and its loop has
+// less to keep.
+fn from_cursor(v: View) -> View
+    requires { ⌜ (v .x ≤ v .width) × (v .y ≤ v .height) × (v .left + v .width < 65536) × (v .top + v .height < 65536) ⌝ }
+    ensures { λ r. ⌜ r ≡ fromCursor v ⌝ }
+{
+    View {
+        left: v.left + v.x,
+        top: v.top + v.y,
+        width: v.width - v.x,
+        height: v.height - v.y,
+        x: 0,
+        y: 0,
+        ..v
     }
 }
 
@@ -120,7 +137,7 @@ pub fn image_bytes(
     requires { ⌜ (column < width) × (row < height) × (height ≤ 2) × (from < length (now piece)) ⌝ }
     ensures { λ r. ⌜ Stocked g p style width height column row (now (mem .entry)) (now (piece .entry)) from r (now (mem .exit)) ⌝ }
 {
-    let v = p.view;
+    let v = from_cursor(p.view);
     let mut x = column;
     let mut y = row;
     let mut i = from;

@@ -4,6 +4,7 @@ use Prim.Native.Nat.{_+_, _-_, _<_, _≤_}
 use native.Mathlib.Omega.{arith}
 use lib.ListN.{length}
 use borrow.Author.Tests.{eq-eqb, ne-eqb}
+use Rattle.runs_images.proofs.Corner.{corner-in, corner-stored}
 use Rattle.runs_images.proofs.Filling.{Filling, filling-begin, next-on, next-beyond, next-down, filling-next, filling-whole, filling-end}
 use Rattle.runs_images.proofs.image_bytes.Statement.{statement}
 use Rattle.runs_images.proofs.image_bytes.Tie as tie
@@ -14,6 +15,9 @@ Inv-loop g mem₀ p style width height column row piece from v x₀ y₀ i₀ me
 abbrev μ-loop : tie.MeasureT-loop
 μ-loop g mem₀ p style width height column row piece from v x₀ y₀ i₀ mem x y i = length piece - i
 
+from-cursor-requires : tie.Need-from-cursor-requires Inv-loop μ-loop
+from-cursor-requires c κs = let place = c .before .before .pre .0 .1 .0 in omega (arith, place .x, place .y)
+
 loop-holds : tie.Need-loop-holds Inv-loop μ-loop
 loop-holds c =
     let start = c .before .before .before in
@@ -23,15 +27,21 @@ loop-holds c =
 store-requires : tie.Need-store-requires Inv-loop μ-loop
 store-requires c κs =
     let k = c .before .before .before .loop .inv in
-    let pre = c .before .before .before .before .before .before .before .pre .0 in
-    (pre .0, (pre .1 .0, record { size = k .size ∙ pre .1 .1 .size; small = pre .1 .1 .small }))
+    let corner = c .before .before .before .before in
+    let start = corner .before .before .before in
+    let pre = start .pre .0 in (
+      pre .0,
+      (corner-in (start .args .p .view) (corner .from-cursor .ensures) (pre .1 .0), record { size = k .size ∙ pre .1 .1 .size; small = pre .1 .1 .small }),
+    )
 
 place-after-requires : tie.Need-place-after-requires Inv-loop μ-loop
 place-after-requires c κs = let k = c .before .before .before .before .before .before .loop .inv in (k .down, omega (arith, k .across))
 
 -- the next byte is one of the piece, and can be counted
 countable : (c : tie.In-loop Inv-loop μ-loop) → c .before .loop .i + 1 < 18446744073709551616
-countable c = omega arith
+countable c =
+    let piece = c .before .before .before .before .before .good .1 .1 .1 .1 .1 .1 .1 .1 .0 in
+    omega (arith, piece)
 
 inside : (c : tie.In-loop Inv-loop μ-loop) → c .before .loop .i < length (c .before .before .before .before .before .args .piece .now)
 inside c = omega arith
@@ -49,7 +59,7 @@ ahead c =
     let k = turn .before .loop .inv in
     let l = inside turn in
     let placed = c .place-after .ensures in
-    let stored = storing .store .ensures in (
+    let stored = corner-stored (start .args .p .view) (turn .before .before .from-cursor .ensures) (start .pre .0 .1 .0) _ _ _ _ _ _ (storing .store .ensures) in (
       next-on _ _ _ _ _ _ _ _ _ _ two _ _ _ _ k l _ placed _ stored,
       next-beyond _ _ _ _ _ _ _ _ _ _ two _ _ _ _ k l _ placed _ stored,
       next-down _ _ _ _ _ _ _ _ _ _ two _ _ _ _ k l _ placed _ stored,
@@ -64,9 +74,10 @@ returns c =
     let storing = placed .before .before .before in
     let turn = storing .before .before .before in
     let start = turn .before .before .before .before .before in
+    let stored = corner-stored (start .args .p .view) (turn .before .before .from-cursor .ensures) (start .pre .0 .1 .0) _ _ _ _ _ _ (storing .store .ensures) in
     rw (c .filled-to .ensures)
     (filling-whole _ _ _ _ _ _ _ _ _ _ (start .pre .1 .2) _ _ _ _ (turn .before .loop .inv) (inside turn)
-    _ (placed .place-after .ensures) _ (storing .store .ensures) (eq-eqb _ _ (c .before .if1 .taken)))
+    _ (placed .place-after .ensures) _ stored (eq-eqb _ _ (c .before .if1 .taken)))
 
 loop-again : tie.Need-loop-again Inv-loop μ-loop
 loop-again c =
@@ -74,8 +85,9 @@ loop-again c =
     let storing = placed .before .before .before in
     let turn = storing .before .before .before in
     let start = turn .before .before .before .before .before in
+    let stored = corner-stored (start .args .p .view) (turn .before .before .from-cursor .ensures) (start .pre .0 .1 .0) _ _ _ _ _ _ (storing .store .ensures) in
     filling-next _ _ _ _ _ _ _ _ _ _ (start .pre .1 .2) _ _ _ _ (turn .before .loop .inv) (inside turn)
-    _ (placed .place-after .ensures) _ (storing .store .ensures) (storing .store .kept .1 .0) (ne-eqb _ _ (c .if1 .left))
+    _ (placed .place-after .ensures) _ stored (storing .store .kept .1 .0) (ne-eqb _ _ (c .if1 .left))
 
 filled-to-requires-2 : tie.Need-filled-to-requires-2 Inv-loop μ-loop
 filled-to-requires-2 c κs =
@@ -94,6 +106,7 @@ image-bytes-spec =
     (tie.spec
     Inv-loop
     μ-loop
+    from-cursor-requires
     loop-holds
     (λ c. omega arith)
     store-requires
