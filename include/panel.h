@@ -9,7 +9,7 @@
  * `cc yours.c target/staticlib/libpanel_c.a` needs no other library. examples/
  * has a receiver. The numbers are document 01's; docs/RECORD.md has the record.
  *
- * Stack, on x86-64: a feed needs some 2,700 bytes, every other call below 1,000
+ * Stack, on x86-64: a feed needs some 3,000 bytes, every other call below 1,000
  * (docs/MEASURED.md).
  */
 #ifndef PANEL_H
