@@ -1,5 +1,5 @@
 -- Demand 1 for each of the five calls. Assumes nothing.
-use mathlib.Core.Path.{_≡_, refl}
+use mathlib.Core.Path.{_≡_, refl, sym, ap, _∙_}
 use mathlib.Core.Logic.{_↔_, _≢_, Iff·rfl}
 use mathlib.Core.Bool.{Bool, true, false, cond, not}
 use mathlib.Core.List.{List, [], _∷_}
@@ -7,7 +7,7 @@ use Prim.Native.Nat.{ℕ}
 use native.Mathlib.Omega.{arith}
 use lib.Dec.{eqb}
 use lib.ListN.{length}
-use borrow.Author.Tests.{eqb-false}
+use borrow.Author.Tests.{eqb-true, eqb-false, eq-eqb, ne-eqb}
 use Rattle.paper.specs.declared.Module.{Module}
 use Rattle.paper.specs.declared.Refusal.{Refusal}
 use Rattle.paper.specs.declared.Refusal.the-variants.{Accepted, MemoryLength, FontLength, GlassLength, NoSuchWindow, UndefinedWindow, HeldAlready, NotHeld, BrokenState}
@@ -26,47 +26,27 @@ use Rattle.demands.proofs.Rows.{here, later, otherwise, never, not-yes,
 
 -- ---- a call answers by its refusal
 
--- one that is not refused answers so, and any other gives its refusal
-answers-by : {A : Type 0} (f : A → Refusal) (r : Refusal) (a b : A) → f a ≡ Accepted → f b ≡ r → f (cond (isAccepted r) a b) ≡ r
-unfolding isAccepted
-answers-by f Accepted a b p q = p
-answers-by f MemoryLength a b p q = q
-answers-by f FontLength a b p q = q
-answers-by f GlassLength a b p q = q
-answers-by f NoSuchWindow a b p q = q
-answers-by f UndefinedWindow a b p q = q
-answers-by f HeldAlready a b p q = q
-answers-by f NotHeld a b p q = q
-answers-by f BrokenState a b p q = q
+-- one that is not refused answers so, and any other gives its refusal's number
+answers-by : {A : Type 0} (f : A → Refusal) (r : Refusal) (a b : A) → f a ≡ Accepted → f b ≡ r
+    → refusalNumber (f (cond (isAccepted r) a b)) ≡ refusalNumber r
+unfolding isAccepted refusalNumber
+answers-by f r a b p q = go (eqb (refusalNumber r) 0) refl where
+  go : (t : Bool) → eqb (refusalNumber r) 0 ≡ t → refusalNumber (f (cond t a b)) ≡ refusalNumber r
+  go true e = ap refusalNumber p ∙ sym (eqb-true (refusalNumber r) 0 e)
+  go false e = ap refusalNumber q
 
 -- 0 is a call that is not refused
 is-taken : (r : Refusal) → refusalNumber r ≡ 0 → isAccepted r ≡ true
-unfolding isAccepted refusalNumber
-is-taken Accepted e = refl
-is-taken MemoryLength e = absurd (omega arith)
-is-taken FontLength e = absurd (omega arith)
-is-taken GlassLength e = absurd (omega arith)
-is-taken NoSuchWindow e = absurd (omega arith)
-is-taken UndefinedWindow e = absurd (omega arith)
-is-taken HeldAlready e = absurd (omega arith)
-is-taken NotHeld e = absurd (omega arith)
-is-taken BrokenState e = absurd (omega arith)
+unfolding isAccepted
+is-taken r e = eq-eqb (refusalNumber r) 0 e
 
 -- any other number is one that is
 is-refused : (r : Refusal) → refusalNumber r ≢ 0 → isAccepted r ≡ false
-unfolding isAccepted refusalNumber
-is-refused Accepted n = absurd (n refl)
-is-refused MemoryLength n = refl
-is-refused FontLength n = refl
-is-refused GlassLength n = refl
-is-refused NoSuchWindow n = refl
-is-refused UndefinedWindow n = refl
-is-refused HeldAlready n = refl
-is-refused NotHeld n = refl
-is-refused BrokenState n = refl
+unfolding isAccepted
+is-refused r n = ne-eqb (refusalNumber r) 0 n
 
 -- what its refusal's number says, a call's answer says
-says : {a b : Refusal} {P : Type 0} → a ≡ b → (i : ℕ) → ((refusalNumber b ≡ i) ↔ P) → (refusalNumber a ≡ i) ↔ P
+says : {a b : ℕ} {P : Type 0} → a ≡ b → (i : ℕ) → ((b ≡ i) ↔ P) → (a ≡ i) ↔ P
 says e i h = rw e h
 
 -- the numbers that a call may give are those of its rows, by a row and what is tested after it
@@ -83,7 +63,7 @@ last i n = eqb-false 0 i n
 -- ---- start
 
 module _ (g : Module) (m : List ℕ) where
-  start-refusal : startCall g m .answer .refusal ≡ startRefusal g m
+  start-refusal : refusalNumber (startCall g m .answer .refusal) ≡ refusalNumber (startRefusal g m)
   unfolding startCall
   start-refusal = answers-by (λ (q : Starting). q .answer .refusal) (startRefusal g m) _ _ refl refl
 
@@ -155,7 +135,7 @@ module _ (n : ℕ) (m : List ℕ) (k : ℕ) (l : List ℕ) (ok : Bool) (w : Refu
 -- ---- feed
 
 module _ (g : Module) (font : List ℕ) (s : State) (m bytes : List ℕ) where
-  feed-refusal : feedCall g font s m bytes .answer .refusal ≡ feedRefusal g font s m
+  feed-refusal : refusalNumber (feedCall g font s m bytes .answer .refusal) ≡ refusalNumber (feedRefusal g font s m)
   unfolding feedCall
   feed-refusal =
       answers-by (λ (q : Feeding). q .answer .refusal) (feedRefusal g font s m) _ _
@@ -181,7 +161,7 @@ module _ (g : Module) (font : List ℕ) (s : State) (m bytes : List ℕ) where
 -- ---- refresh
 
 module _ (g : Module) (s : State) (m glass : List ℕ) where
-  refresh-refusal : refreshCall g s m glass .answer .refusal ≡ refreshRefusal g s m glass
+  refresh-refusal : refusalNumber (refreshCall g s m glass .answer .refusal) ≡ refusalNumber (refreshRefusal g s m glass)
   unfolding refreshCall
   refresh-refusal =
       answers-by (λ (q : Refreshing). q .answer .refusal) (refreshRefusal g s m glass) _ _ refl refl
@@ -206,7 +186,7 @@ module _ (g : Module) (s : State) (m glass : List ℕ) where
 -- ---- hold
 
 module _ (g : Module) (s : State) (k : ℕ) where
-  hold-refusal : holdCall g s k .refusal ≡ holdRefusal g s k
+  hold-refusal : refusalNumber (holdCall g s k .refusal) ≡ refusalNumber (holdRefusal g s k)
   unfolding holdCall
   hold-refusal = answers-by (λ (q : Answer). q .refusal) (holdRefusal g s k) _ _ refl refl
 
@@ -265,7 +245,7 @@ module _ (g : Module) (s : State) (k : ℕ) where
 -- ---- release
 
 module _ (g : Module) (s : State) where
-  release-refusal : releaseCall g s .refusal ≡ releaseRefusal g s
+  release-refusal : refusalNumber (releaseCall g s .refusal) ≡ refusalNumber (releaseRefusal g s)
   unfolding releaseCall
   release-refusal = answers-by (λ (q : Answer). q .refusal) (releaseRefusal g s) _ _ refl refl
 

@@ -18,6 +18,7 @@ use Rattle.paper.specs.Panel.{memoryLength, glassLength, fontLength}
 use Rattle.paper.specs.Strokes.{Stroke, noSpan, noSpans, applyAll, markAll, refreshed, shownAll}
 use Rattle.paper.specs.Settings.{withSpans}
 use Rattle.paper.specs.Bounds.{accepted}
+use Rattle.paper.specs.Numbers.{refusalNumber}
 use Rattle.paper.specs.Calls.{isAccepted, Feeding, feeding, run, feedRefusal, fedNothing, feedCall, Refreshing, refreshing, refreshRefusal, emptied, refreshCall, heldBy, holdCall}
 use Rattle.laws_state.specs.Room.{Usable}
 use Rattle.laws_state.specs.Sized.{Sized}
@@ -59,7 +60,7 @@ module _ (g : Module) where
   -- a refresh that is not refused
   refresh-runs : (s : State) (m glass : List ℕ) → length m ≡ memoryLength g → length glass ≡ glassLength g → accepted g s ≡ true
       → refreshCall g s m glass ≡ refreshing Accepted (emptied g s) (shownAll g (s .spans)) (refreshed g m (s .spans) glass)
-  unfolding refreshCall refreshRefusal isAccepted
+  unfolding refreshCall refreshRefusal isAccepted refusalNumber
   refresh-runs s m glass l z k = rw (eq-eqb (length m) (memoryLength g) l, eq-eqb (length glass) (glassLength g) z, k)
 
   -- as many spans as rows

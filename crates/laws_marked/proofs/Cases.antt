@@ -26,7 +26,7 @@ use Rattle.laws_marked.specs.Marked.{Font, begun, fresh, freshState, fed
 -- a feed that is not refused runs over its piece
 runs : (font : List ℕ) (s : State) (m piece : List ℕ) → length font ≡ 1120 → eqb (length m) 1024 ≡ true → accepted panel s ≡ true
     → feedCall panel font s m piece ≡ run panel font (fedNothing Accepted s m) piece
-unfolding feedCall feedRefusal isAccepted panel
+unfolding feedCall feedRefusal isAccepted refusalNumber panel
 runs font s m piece f l a = rw (f, l, a)
 
 -- ---- the dots of the glyph of 41h as bytes

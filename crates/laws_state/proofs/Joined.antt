@@ -8,7 +8,7 @@ use Rattle.paper.specs.declared.Module.{Module}
 use Rattle.paper.specs.declared.Refusal.the-variants.{Accepted}
 use Rattle.paper.specs.declared.State.{State}
 use Rattle.paper.specs.Strokes.{applyAll}
-use Rattle.paper.specs.Numbers.{carriedBy, answeredBy}
+use Rattle.paper.specs.Numbers.{refusalNumber, carriedBy, answeredBy}
 use Rattle.paper.specs.Carry.{byteMeans}
 use Rattle.paper.specs.Calls.{Feeding, isAccepted, feedRefusal, next, run, fedNothing, feedCall, settled}
 use Rattle.laws_state.specs.Joined.{Joined}
@@ -22,7 +22,7 @@ module _ (g : Module) (font : List ℕ) where
   -- an accepted feed runs over its piece
   pub feed-runs : (s : State) (m piece : List ℕ) → feedRefusal g font s m ≡ Accepted
       → feedCall g font s m piece ≡ run g font (fedNothing Accepted s m) piece
-  unfolding feedCall isAccepted
+  unfolding feedCall isAccepted refusalNumber
   feed-runs s m piece e = rw e
 
   -- no byte has a feed refused

@@ -15,6 +15,7 @@ use Rattle.paper.specs.Reading.{between}
 use Rattle.paper.specs.Settings.{windowAt, isDefined}
 use Rattle.paper.specs.Bounds.{accepted}
 use Rattle.paper.specs.Carry.{isHeld}
+use Rattle.paper.specs.Numbers.{refusalNumber}
 use Rattle.paper.specs.Calls.{isNot, isAccepted, feedRefusal, holdRefusal}
 
 -- a call that passes a test, whose refusal is r, goes on to the next
@@ -31,7 +32,7 @@ module _ (g : Module) where
   -- a feed that is not refused
   pub feed-given : (font : List ℕ) (s : State) (m : List ℕ) → isAccepted (feedRefusal g font s m) ≡ true
       → (length m ≡ memoryLength g) × (length font ≡ fontLength g) × (accepted g s ≡ true)
-  unfolding feedRefusal isAccepted
+  unfolding feedRefusal isAccepted refusalNumber
   feed-given font s m e =
       let a = passed (isNot (memoryLength g) m) MemoryLength _ refl e in
       let b = passed (isNot (fontLength g) font) FontLength _ refl (a .1) in
@@ -48,7 +49,7 @@ module _ (g : Module) where
   pub hold-given : (s : State) (k : ℕ) → isAccepted (holdRefusal g s k) ≡ true
       → (accepted g s ≡ true) × (isHeld (s .hold) ≡ false) × (between 1 4 k ≡ true)
       × (isDefined (windowAt (s .windows) k) ≡ true)
-  unfolding holdRefusal isAccepted
+  unfolding holdRefusal isAccepted refusalNumber
   hold-given s k e =
       let a = passed (not (accepted g s)) BrokenState _ refl e in
       let b = passed (isHeld (s .hold)) HeldAlready _ refl (a .1) in

@@ -2,13 +2,14 @@
 -- record stands for the state that the paper's call gives, so calls in a row are the paper's calls in a row. Assumes nothing.
 use Prim.Native.Nat.{ℕ}
 use mathlib.Core.Path.{_≡_, refl, sym}
-use mathlib.Core.Bool.{true, false, true≢false}
+use mathlib.Core.Bool.{Bool, true, false, cond, true≢false}
 use mathlib.Core.List.{List}
 use lib.ListN.{length}
+use lib.Dec.{eqb}
 use borrow.Author.Tests.{eq-eqb}
 use Rattle.paper.specs.declared.Answer.{Answer}
 use Rattle.paper.specs.declared.Refusal.{Refusal}
-use Rattle.paper.specs.declared.Refusal.the-variants.{Accepted, MemoryLength, FontLength, GlassLength, NoSuchWindow, UndefinedWindow, HeldAlready, NotHeld, BrokenState}
+use Rattle.paper.specs.declared.Refusal.the-variants.{Accepted}
 use Rattle.paper.specs.declared.State.{State}
 use Rattle.paper.specs.Panel.{panel, fontLength, memoryLength, glassLength}
 use Rattle.paper.specs.Numbers.{refusalNumber, outcomeNumber}
@@ -58,7 +59,7 @@ Left s r t = isAccepted r ≡ false → t ≡ s
 
 -- there is nothing to say of a call that is accepted
 taken : (s t : State) → Left s Accepted t
-unfolding isAccepted
+unfolding isAccepted refusalNumber
 taken s t e = absurd (true≢false e)
 
 module _ (s : State) where
@@ -93,16 +94,11 @@ module _ (s : State) where
 -- the record that a call leaves stands for the state that it gave
 left-stands : (l : List ℕ) (r : Refusal) (t : State) → Sized panel t → Left (stateOf l) r t
     → stateOf (recordAfter (refusalNumber r) t l) ≡ t
-unfolding recordAfter refusalNumber isAccepted
-left-stands l Accepted t z h = read-back t z
-left-stands l MemoryLength t z h = sym (h refl)
-left-stands l FontLength t z h = sym (h refl)
-left-stands l GlassLength t z h = sym (h refl)
-left-stands l NoSuchWindow t z h = sym (h refl)
-left-stands l UndefinedWindow t z h = sym (h refl)
-left-stands l HeldAlready t z h = sym (h refl)
-left-stands l NotHeld t z h = sym (h refl)
-left-stands l BrokenState t z h = sym (h refl)
+unfolding recordAfter isAccepted
+left-stands l r t z h = go (eqb (refusalNumber r) 0) h where
+  go : (b : Bool) → (b ≡ false → t ≡ stateOf l) → stateOf (cond b (encoded t) l) ≡ t
+  go true k = read-back t z
+  go false k = sym (k refl)
 
 module _ (l : List ℕ) (h : length l ≡ recordLength) where
   pub start-stands : (m : List ℕ) → stateOf (startC l m .state) ≡ startCall panel m .answer .state

@@ -19,7 +19,7 @@ use Rattle.paper.specs.declared.Fed.{Fed}
 use Rattle.paper.specs.declared.Refreshed.{Refreshed}
 use Rattle.paper.specs.Panel.{memoryLength, glassLength, fontLength}
 use Rattle.paper.specs.Strokes.{noSpans, applyAll, markAll, refreshed, shownAll}
-use Rattle.paper.specs.Numbers.{carriedBy, answeredBy}
+use Rattle.paper.specs.Numbers.{refusalNumber, carriedBy, answeredBy}
 use Rattle.paper.specs.Reading.{between}
 use Rattle.paper.specs.Settings.{initialState, withSettings, withSelected, withHold, withHalf, withSpans, windowAt, isDefined}
 use Rattle.paper.specs.Bounds.{accepted}
@@ -30,17 +30,9 @@ use Rattle.paper.specs.Carry.{Meaning, isHeld, byteMeans}
 abbrev pub isNot : ℕ → List ℕ → Bool
 isNot n l = not (eqb (length l) n)
 
--- "nothing lent and nothing in the state changes" unless a call is accepted
+-- "nothing lent and nothing in the state changes" unless a call is accepted, which is number 0
 unfoldable pub isAccepted : Refusal → Bool
-isAccepted Accepted = true
-isAccepted MemoryLength = false
-isAccepted FontLength = false
-isAccepted GlassLength = false
-isAccepted NoSuchWindow = false
-isAccepted UndefinedWindow = false
-isAccepted HeldAlready = false
-isAccepted NotHeld = false
-isAccepted BrokenState = false
+isAccepted r = eqb (refusalNumber r) 0
 
 -- ---- start
 
