@@ -18,12 +18,12 @@ use Rattle.panel_c.proofs.Laws.{start-stands, feed-stands, hold-stands, refresh
 use Rattle.demands_c.specs.Demands.{windowFedC, BegunInStepC}
 use Rattle.demands_c.proofs.Plays.{record-size, feed-is, feed-size, refresh-is}
 
-module _ (l : List ℕ) (h : length l ≡ 103) where
+module _ (l : List ℕ) (h : length l ≡ recordLength) where
   start-is : (m : List ℕ) → startC l m ≡ startingC (startCall panel m)
   unfolding startC
   start-is m = rw (eq-eqb (length l) recordLength h)
 
-  start-size : (m : List ℕ) → length (startC l m .state) ≡ 103
+  start-size : (m : List ℕ) → length (startC l m .state) ≡ recordLength
   start-size m =
       ap (λ (a : StartingC). length (a .state)) (start-is m) ∙ encoded-length (startCall panel m .answer .state)
 
@@ -31,11 +31,11 @@ module _ (l : List ℕ) (h : length l ≡ 103) where
   unfolding holdC
   hold-is k = rw (eq-eqb (length l) recordLength h)
 
-  hold-size : (k : ℕ) → length (holdC l k .state) ≡ 103
+  hold-size : (k : ℕ) → length (holdC l k .state) ≡ recordLength
   hold-size k =
       ap (λ (a : CallingC). length (a .state)) (hold-is k) ∙ record-size _ (holdCall panel (stateOf l) k .state) l h
 
-module _ (font l m glass : List ℕ) (h : length l ≡ 103) where
+module _ (font l m glass : List ℕ) (h : length l ≡ recordLength) where
   abbrev a : StartingC
   a = startC l m
 
@@ -45,7 +45,7 @@ module _ (font l m glass : List ℕ) (h : length l ≡ 103) where
   abbrev held : CallingC
   held = holdC (f .state) 1
 
-  f-size : length (f .state) ≡ 103
+  f-size : length (f .state) ≡ recordLength
   f-size = feed-size (a .state) (start-size l h m) (a .mem) font windowOne
 
   -- the feed's state and memory are those of document 01's calls

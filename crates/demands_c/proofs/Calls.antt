@@ -38,19 +38,19 @@ not-listed : (ns : List ℕ) (p i : ℕ) → oneOf ns p ≡ true → oneOf ns i 
 not-listed ns p i is none e = true≢false (sym is ∙ ap (oneOf ns) e ∙ none)
 
 -- n is a call's answer and p the number that document 01's call gives, one of ns
-module _ (l : List ℕ) {n : ℕ} (p : ℕ) (e : n ≡ cond (isNot 103 l) 100 p) where
-  row : (i : ℕ) {P : Type 0} → eqb 100 i ≡ false → ((p ≡ i) ↔ P) → (n ≡ i) ↔ ((length l ≡ 103) × P)
-  row i other h = rw e (later (λ (k : ℕ). k) i (isNot 103 l) 100 p other (length-right 103 l) h)
+module _ (l : List ℕ) {n : ℕ} (p : ℕ) (e : n ≡ cond (isNot recordLength l) 100 p) where
+  row : (i : ℕ) {P : Type 0} → eqb 100 i ≡ false → ((p ≡ i) ↔ P) → (n ≡ i) ↔ ((length l ≡ recordLength) × P)
+  row i other h = rw e (later (λ (k : ℕ). k) i (isNot recordLength l) 100 p other (length-right recordLength l) h)
 
   module _ (ns : List ℕ) (is : oneOf ns p ≡ true) where
-    row-100 : oneOf ns 100 ≡ false → (n ≡ 100) ↔ (length l ≢ 103)
+    row-100 : oneOf ns 100 ≡ false → (n ≡ 100) ↔ (length l ≢ recordLength)
     row-100 none =
-        rw e (here (λ (k : ℕ). k) 100 (isNot 103 l) 100 p refl (not-listed ns p 100 is none) (length-wrong 103 l))
+        rw e (here (λ (k : ℕ). k) 100 (isNot recordLength l) 100 p refl (not-listed ns p 100 is none) (length-wrong recordLength l))
 
     all-listed : oneOf (100 ∷ ns) n ≡ true
     all-listed =
         rw e
-        (by-cond (λ (k : ℕ). oneOf (100 ∷ ns) k ≡ true) (isNot 103 l) (λ _. refl) (λ _. rw is (or-true (eqb p 100))))
+        (by-cond (λ (k : ℕ). oneOf (100 ∷ ns) k ≡ true) (isNot recordLength l) (λ _. refl) (λ _. rw is (or-true (eqb p 100))))
 
 -- the record that a call leaves
 module _ (n : ℕ) (s : State) (l : List ℕ) where
@@ -65,9 +65,9 @@ module _ (n : ℕ) (s : State) (l : List ℕ) where
 -- ---- start
 
 module _ (l m : List ℕ) where
-  start-number : startC l m .answer ≡ cond (isNot 103 l) 100 (startNumber panel m)
+  start-number : startC l m .answer ≡ cond (isNot recordLength l) 100 (startNumber panel m)
   unfolding startC
-  start-number = picked (λ (q : StartingC). q .answer) (isNot 103 l) _ _
+  start-number = picked (λ (q : StartingC). q .answer) (isNot recordLength l) _ _
 
   pub start-answers-C : StartAnswersC l m
   unfolding startC panel
@@ -75,7 +75,7 @@ module _ (l m : List ℕ) where
       let a = demand-1-start m in
       let p = startNumber panel m in
       let e = start-number in
-      let t = isNot 103 l in
+      let t = isNot recordLength l in
       record {
         listed = all-listed l p e (0 ∷ 1 ∷ []) (a .listed);
         number-100 = row-100 l p e (0 ∷ 1 ∷ []) (a .listed) refl;
@@ -99,9 +99,9 @@ module _ (l m : List ℕ) where
 -- ---- feed
 
 module _ (l m font bytes : List ℕ) where
-  feed-number : feedC l m font bytes .answer .answer ≡ cond (isNot 103 l) 100 (feedNumber panel font (stateOf l) m bytes)
+  feed-number : feedC l m font bytes .answer .answer ≡ cond (isNot recordLength l) 100 (feedNumber panel font (stateOf l) m bytes)
   unfolding feedC
-  feed-number = picked (λ (q : FeedingC). q .answer .answer) (isNot 103 l) _ _
+  feed-number = picked (λ (q : FeedingC). q .answer .answer) (isNot recordLength l) _ _
 
   pub feed-answers-C : FeedAnswersC l m font bytes
   unfolding feedC panel
@@ -118,7 +118,7 @@ module _ (l m font bytes : List ℕ) where
         number-8 = row l p e 8 refl (Iff·trans (a .number-8) (Iff·and Iff·rfl (Iff·and Iff·rfl (no-state l))));
         number-0 = row l p e 0 refl (a .number-0);
         refused =
-            by-cond (λ (q : FeedingC). q .answer .answer ≢ 0 → NothingFedC l m q) (isNot 103 l)
+            by-cond (λ (q : FeedingC). q .answer .answer ≢ 0 → NothingFedC l m q) (isNot recordLength l)
             (λ _ _. record { state = refl; mem = refl; carried = refl; answered = refl; outcome = refl })
             (λ _ n.
             let r = a .refused n in
@@ -134,9 +134,9 @@ module _ (l m font bytes : List ℕ) where
 -- ---- hold
 
 module _ (l : List ℕ) (k : ℕ) where
-  hold-number : holdC l k .answer ≡ cond (isNot 103 l) 100 (holdNumber panel (stateOf l) k)
+  hold-number : holdC l k .answer ≡ cond (isNot recordLength l) 100 (holdNumber panel (stateOf l) k)
   unfolding holdC
-  hold-number = picked (λ (q : CallingC). q .answer) (isNot 103 l) _ _
+  hold-number = picked (λ (q : CallingC). q .answer) (isNot recordLength l) _ _
 
   pub hold-answers-C : HoldAnswersC l k
   unfolding holdC
@@ -154,18 +154,18 @@ module _ (l : List ℕ) (k : ℕ) where
         number-5 = row l p e 5 refl (a .number-5);
         number-0 = row l p e 0 refl (a .number-0);
         refused =
-            by-cond (λ (q : CallingC). q .answer ≢ 0 → q .state ≡ l) (isNot 103 l) (λ _ _. refl) (λ _ n. left-alone p _ l n);
+            by-cond (λ (q : CallingC). q .answer ≢ 0 → q .state ≡ l) (isNot recordLength l) (λ _ _. refl) (λ _ n. left-alone p _ l n);
         taken =
-            by-cond (λ (q : CallingC). q .answer ≡ 0 → q .state ≡ encoded (heldBy (stateOf l) k)) (isNot 103 l)
+            by-cond (λ (q : CallingC). q .answer ≡ 0 → q .state ≡ encoded (heldBy (stateOf l) k)) (isNot recordLength l)
             (λ _ h. absurd (omega arith)) (λ _ h. written p _ l h ∙ ap encoded (a .taken h));
       }
 
 -- ---- release
 
 module _ (l : List ℕ) where
-  release-number : releaseC l .answer ≡ cond (isNot 103 l) 100 (releaseNumber panel (stateOf l))
+  release-number : releaseC l .answer ≡ cond (isNot recordLength l) 100 (releaseNumber panel (stateOf l))
   unfolding releaseC
-  release-number = picked (λ (q : CallingC). q .answer) (isNot 103 l) _ _
+  release-number = picked (λ (q : CallingC). q .answer) (isNot recordLength l) _ _
 
   pub release-answers-C : ReleaseAnswersC l
   unfolding releaseC
@@ -181,18 +181,18 @@ module _ (l : List ℕ) where
         number-7 = row l p e 7 refl (a .number-7);
         number-0 = row l p e 0 refl (a .number-0);
         refused =
-            by-cond (λ (q : CallingC). q .answer ≢ 0 → q .state ≡ l) (isNot 103 l) (λ _ _. refl) (λ _ n. left-alone p _ l n);
+            by-cond (λ (q : CallingC). q .answer ≢ 0 → q .state ≡ l) (isNot recordLength l) (λ _ _. refl) (λ _ n. left-alone p _ l n);
         taken =
-            by-cond (λ (q : CallingC). q .answer ≡ 0 → q .state ≡ encoded (released (stateOf l))) (isNot 103 l)
+            by-cond (λ (q : CallingC). q .answer ≡ 0 → q .state ≡ encoded (released (stateOf l))) (isNot recordLength l)
             (λ _ h. absurd (omega arith)) (λ _ h. written p _ l h ∙ ap encoded (a .taken h));
       }
 
 -- ---- refresh
 
 module _ (l m glass : List ℕ) where
-  refresh-number : refreshC l m glass .answer .answer ≡ cond (isNot 103 l) 100 (refreshNumber panel (stateOf l) m glass)
+  refresh-number : refreshC l m glass .answer .answer ≡ cond (isNot recordLength l) 100 (refreshNumber panel (stateOf l) m glass)
   unfolding refreshC
-  refresh-number = picked (λ (q : RefreshingC). q .answer .answer) (isNot 103 l) _ _
+  refresh-number = picked (λ (q : RefreshingC). q .answer .answer) (isNot recordLength l) _ _
 
   pub refresh-answers-C : RefreshAnswersC l m glass
   unfolding refreshC panel
@@ -211,7 +211,7 @@ module _ (l m glass : List ℕ) where
         refused =
             by-cond
             (λ (q : RefreshingC). q .answer .answer ≢ 0 → (q .state ≡ l) × (q .answer .moved ≡ 0) × (q .glass ≡ glass))
-            (isNot 103 l) (λ _ _. (refl, refl, refl))
+            (isNot recordLength l) (λ _ _. (refl, refl, refl))
             (λ _ n. let r = a .refused n in (left-alone p _ l n, r .1, r .2));
         taken =
             by-cond
@@ -220,7 +220,7 @@ module _ (l m glass : List ℕ) where
             → (q .state ≡ encoded (emptied panel (stateOf l)))
             × (q .answer .moved ≡ shownAll panel (stateOf l .spans))
             × (q .glass ≡ refreshed panel m (stateOf l .spans) glass))
-            (isNot 103 l) (λ _ h. absurd (omega arith))
+            (isNot recordLength l) (λ _ h. absurd (omega arith))
             (λ _ h. let r = a .taken h in (written p _ l h ∙ ap encoded (r .0), r .1, r .2));
       }
 

@@ -11,6 +11,7 @@ use Rattle.paper.specs.Bounds.{accepted}
 use Rattle.paper.specs.Calls.{feedCall}
 use Rattle.demands.specs.Events.{Event, refresh, joined, play}
 use Rattle.demands.specs.Demands.{InStep, someFont, someMemory, someGlass}
+use Rattle.record_write.specs.Bytes.{recordLength}
 use Rattle.record_read.specs.Record.{stateOf}
 use Rattle.panel_c.specs.Face.{feedC}
 use Rattle.demands_c.specs.Plays.{playC, SamePlay}
@@ -51,14 +52,14 @@ pub demand-3-C : (font : List ℕ) (k back : ℕ) (v : Settings) (l m glass : Li
     (playC font l m glass (events ++ refresh ∷ []))
 demand-3-C = served-C
 
--- from any record of 103 bytes, held or not, calls in a row are document 01's calls in a row
-pub demand-3-paper-C : (font : List ℕ) (events : List Event) (l m glass : List ℕ) → length l ≡ 103
+-- from any bytes of a record's length, held or not, calls in a row are document 01's calls in a row
+pub demand-3-paper-C : (font : List ℕ) (events : List Event) (l m glass : List ℕ) → length l ≡ recordLength
     → SamePlay (play panel font (stateOf l) m glass events) (playC font l m glass events)
 demand-3-paper-C = same-play
 
 -- ---- and it can be begun: a panel that is started, fed a define, held and refreshed is in step, whatever is lent
 
-pub demand-3-begun-C : (font l m glass : List ℕ) → length l ≡ 103 → length font ≡ fontLength panel → length m ≡ memoryLength panel
+pub demand-3-begun-C : (font l m glass : List ℕ) → length l ≡ recordLength → length font ≡ fontLength panel → length m ≡ memoryLength panel
     → length glass ≡ glassLength panel → BegunInStepC font l m glass
 demand-3-begun-C = begun-in-step-C
 

@@ -30,16 +30,16 @@ use Rattle.demands_c.proofs.Records.{record-length}
 
 -- ---- one call on a record of the right length
 
-pub record-size : (n : ℕ) (s : State) (l : List ℕ) → length l ≡ 103 → length (recordAfter n s l) ≡ 103
+pub record-size : (n : ℕ) (s : State) (l : List ℕ) → length l ≡ recordLength → length (recordAfter n s l) ≡ recordLength
 unfolding recordAfter
-record-size n s l h = by-cond (λ (r : List ℕ). length r ≡ 103) (eqb n 0) (λ _. encoded-length s) (λ _. h)
+record-size n s l h = by-cond (λ (r : List ℕ). length r ≡ recordLength) (eqb n 0) (λ _. encoded-length s) (λ _. h)
 
-module _ (l : List ℕ) (h : length l ≡ 103) where
+module _ (l : List ℕ) (h : length l ≡ recordLength) where
   pub feed-is : (m font bytes : List ℕ) → feedC l m font bytes ≡ feedingC l (feedCall panel font (stateOf l) m bytes)
   unfolding feedC
   feed-is m font bytes = rw (eq-eqb (length l) recordLength h)
 
-  pub feed-size : (m font bytes : List ℕ) → length (feedC l m font bytes .state) ≡ 103
+  pub feed-size : (m font bytes : List ℕ) → length (feedC l m font bytes .state) ≡ recordLength
   feed-size m font bytes =
       ap (λ (f : FeedingC). length (f .state)) (feed-is m font bytes)
       ∙ record-size _ (feedCall panel font (stateOf l) m bytes .answer .state) l h
@@ -48,7 +48,7 @@ module _ (l : List ℕ) (h : length l ≡ 103) where
   unfolding refreshC
   refresh-is m glass = rw (eq-eqb (length l) recordLength h)
 
-  pub refresh-size : (m glass : List ℕ) → length (refreshC l m glass .state) ≡ 103
+  pub refresh-size : (m glass : List ℕ) → length (refreshC l m glass .state) ≡ recordLength
   refresh-size m glass =
       ap (λ (r : RefreshingC). length (r .state)) (refresh-is m glass)
       ∙ record-size _ (refreshCall panel (stateOf l) m glass .answer .state) l h
@@ -57,7 +57,7 @@ module _ (l : List ℕ) (h : length l ≡ 103) where
 
 module _ (font : List ℕ) where
   -- THE INDUCTION: every call leaves the record, memory and glass that document 01's call leaves
-  pub same-play : (events : List Event) (l m glass : List ℕ) → length l ≡ 103
+  pub same-play : (events : List Event) (l m glass : List ℕ) → length l ≡ recordLength
       → SamePlay (play panel font (stateOf l) m glass events) (playC font l m glass events)
   same-play [] l m glass h =
       record {

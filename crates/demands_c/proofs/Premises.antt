@@ -14,7 +14,7 @@ use Rattle.laws_state.proofs.Calls.{start-keeps}
 use Rattle.laws_state.proofs.Parts.{parts}
 use Rattle.laws_state.proofs.Sized.{start-sized}
 use Rattle.demands.specs.Demands.{someMemory}
-use Rattle.record_write.specs.Bytes.{encoded}
+use Rattle.record_write.specs.Bytes.{recordLength, encoded}
 use Rattle.record_write.proofs.Laid.{encoded-length}
 use Rattle.record_read.specs.Record.{settingsAt, stateOf}
 use Rattle.record_read.proofs.Back.{read-back}
@@ -23,7 +23,7 @@ use Rattle.demands_c.specs.Demands.{someRecord}
 
 -- demand-2-C, with `fed-met` of crates/demands; demand-3-paper-C; panel_c/proofs/Laws start-stands to refresh-stands
 pub record-met : let l = encoded (startCall panel someMemory .answer .state) in
-    (length l ≡ 103) × (accepted panel (stateOf l) ≡ true)
+    (length l ≡ recordLength) × (accepted panel (stateOf l) ≡ true)
 record-met =
     let s = startCall panel someMemory .answer .state in (
       encoded-length s,
@@ -31,7 +31,7 @@ record-met =
     )
 
 -- panel_c/proofs/Laws feed-8, hold-8, release-8, refresh-8: no setting is AAh
-pub no-state-met : (length someRecord ≡ 103) × NoState someRecord
+pub no-state-met : (length someRecord ≡ recordLength) × NoState someRecord
 unfolding encoded settingsOk inDomain
 no-state-met = (
   refl,

@@ -18,7 +18,7 @@ use Rattle.paper.specs.Strokes.{noSpan}
 use Rattle.paper.specs.Settings.{windowAt, selectable}
 use Rattle.paper.specs.Bounds.{windowsOk, holdOk, spanOk, spansOk, accepted}
 use Rattle.laws_state.proofs.Parts.{parts, whole}
-use Rattle.record_write.specs.Bytes.{windowsBytes, tailBytes, encoded}
+use Rattle.record_write.specs.Bytes.{recordLength, windowsBytes, tailBytes, encoded}
 use Rattle.record_write.proofs.Laid.{encoded-length}
 use Rattle.record_read.specs.Record.{stateOf}
 use Rattle.record_read.proofs.Back.{read-back, accepted-record, other-bytes}
@@ -91,7 +91,7 @@ module _ (s : State) where
 -- ---- what stands for an accepted state
 
 -- has the length of a record
-pub record-length : (l : List ℕ) → accepted panel (stateOf l) ≡ true → length l ≡ 103
+pub record-length : (l : List ℕ) → accepted panel (stateOf l) ≡ true → length l ≡ recordLength
 record-length l h = ap length (accepted-record panel l h) ∙ encoded-length (stateOf l)
 
 -- and is its record: number 8

@@ -20,7 +20,7 @@ use Rattle.laws_marked.specs.Marked.{windowOne}
 use Rattle.laws_state.specs.Guest.{Guest, OnlyInside}
 use Rattle.demands.specs.Events.{Event, refresh, spansSince, owed, visible}
 use Rattle.demands.specs.Demands.{oneOf, InStep, RefreshedAt}
-use Rattle.record_write.specs.Bytes.{encoded}
+use Rattle.record_write.specs.Bytes.{recordLength, encoded}
 use Rattle.record_read.specs.Record.{stateOf}
 use Rattle.panel_c.specs.Face.{startC, FeedingC, feedC, holdC, releaseC, RefreshingC, refreshC}
 use Rattle.panel_c.proofs.Laws.{NoState}
@@ -29,17 +29,17 @@ use Rattle.demands_c.specs.Plays.{PlayC, playC}
 -- ==== DEMAND 1. "Any bytes, buffers and state record may be handed in. Each call answers or refuses by document 01's numbers,
 -- in its order. A refused call changes no lent byte and hands the state back unchanged."
 -- Every number is given exactly when its row holds and none that is tested before it does; 0 is a call that is not refused.
--- 100 is tested first: the caller's buffer for the record is not 103 bytes long, for which document 01 has no number.
+-- 100 is tested first: the caller's buffer for the record is not 103 bytes long (`recordLength`), for which document 01 has no number.
 -- `NoState l`: the bytes are no accepted state's record.
 
 -- ---- "Start: 1."
 
 pub record StartAnswersC (l m : List ℕ) : Type 0 where
   pub listed : oneOf (100 ∷ 0 ∷ 1 ∷ []) (startC l m .answer) ≡ true
-  pub number-100 : (startC l m .answer ≡ 100) ↔ (length l ≢ 103)
+  pub number-100 : (startC l m .answer ≡ 100) ↔ (length l ≢ recordLength)
   -- 1: "memory is not 1,024 bytes"
-  pub number-1 : (startC l m .answer ≡ 1) ↔ ((length l ≡ 103) × (length m ≢ memoryLength panel))
-  pub number-0 : (startC l m .answer ≡ 0) ↔ ((length l ≡ 103) × (length m ≡ memoryLength panel))
+  pub number-1 : (startC l m .answer ≡ 1) ↔ ((length l ≡ recordLength) × (length m ≢ memoryLength panel))
+  pub number-0 : (startC l m .answer ≡ 0) ↔ ((length l ≡ recordLength) × (length m ≡ memoryLength panel))
   -- a buffer of another length is left alone
   pub wrong : startC l m .answer ≡ 100 → (startC l m .state ≡ l) × (startC l m .mem ≡ m)
   -- "Start takes no state; refused, it gives the initial state with both spans empty", and nothing lent changes
@@ -60,39 +60,39 @@ pub record NothingFedC (l m : List ℕ) (f : FeedingC) : Type 0 where
 
 pub record FeedAnswersC (l m font bytes : List ℕ) : Type 0 where
   pub listed : oneOf (100 ∷ 0 ∷ 1 ∷ 2 ∷ 8 ∷ []) (feedC l m font bytes .answer .answer) ≡ true
-  pub number-100 : (feedC l m font bytes .answer .answer ≡ 100) ↔ (length l ≢ 103)
+  pub number-100 : (feedC l m font bytes .answer .answer ≡ 100) ↔ (length l ≢ recordLength)
   -- 1: "memory is not 1,024 bytes"
-  pub number-1 : (feedC l m font bytes .answer .answer ≡ 1) ↔ ((length l ≡ 103) × (length m ≢ memoryLength panel))
+  pub number-1 : (feedC l m font bytes .answer .answer ≡ 1) ↔ ((length l ≡ recordLength) × (length m ≢ memoryLength panel))
   -- 2: "font is not 1,120 bytes"
   pub number-2 : (feedC l m font bytes .answer .answer ≡ 2)
-      ↔ ((length l ≡ 103) × ((length m ≡ memoryLength panel) × (length font ≢ fontLength panel)))
+      ↔ ((length l ≡ recordLength) × ((length m ≡ memoryLength panel) × (length font ≢ fontLength panel)))
   -- 8: "state record breaks a bound of this paper"
   pub number-8 : (feedC l m font bytes .answer .answer ≡ 8)
-      ↔ ((length l ≡ 103) × ((length m ≡ memoryLength panel) × ((length font ≡ fontLength panel) × NoState l)))
+      ↔ ((length l ≡ recordLength) × ((length m ≡ memoryLength panel) × ((length font ≡ fontLength panel) × NoState l)))
   pub number-0 : (feedC l m font bytes .answer .answer ≡ 0)
-      ↔ ((length l ≡ 103) × ((length m ≡ memoryLength panel) × ((length font ≡ fontLength panel) × (accepted panel (stateOf l) ≡ true))))
+      ↔ ((length l ≡ recordLength) × ((length m ≡ memoryLength panel) × ((length font ≡ fontLength panel) × (accepted panel (stateOf l) ≡ true))))
   pub refused : feedC l m font bytes .answer .answer ≢ 0 → NothingFedC l m (feedC l m font bytes)
 
 -- ---- "Hold: 8, 6, 4, 5."
 
 pub record HoldAnswersC (l : List ℕ) (k : ℕ) : Type 0 where
   pub listed : oneOf (100 ∷ 0 ∷ 8 ∷ 6 ∷ 4 ∷ 5 ∷ []) (holdC l k .answer) ≡ true
-  pub number-100 : (holdC l k .answer ≡ 100) ↔ (length l ≢ 103)
+  pub number-100 : (holdC l k .answer ≡ 100) ↔ (length l ≢ recordLength)
   -- 8: "state record breaks a bound of this paper"
-  pub number-8 : (holdC l k .answer ≡ 8) ↔ ((length l ≡ 103) × NoState l)
+  pub number-8 : (holdC l k .answer ≡ 8) ↔ ((length l ≡ recordLength) × NoState l)
   -- 6: "hold while held"
   pub number-6 : (holdC l k .answer ≡ 6)
-      ↔ ((length l ≡ 103) × ((accepted panel (stateOf l) ≡ true) × (isHeld (stateOf l .hold) ≡ true)))
+      ↔ ((length l ≡ recordLength) × ((accepted panel (stateOf l) ≡ true) × (isHeld (stateOf l .hold) ≡ true)))
   -- 4: "window to hold is not 1 to 4"
   pub number-4 : (holdC l k .answer ≡ 4)
-      ↔ ((length l ≡ 103) × ((accepted panel (stateOf l) ≡ true) × ((isHeld (stateOf l .hold) ≡ false)
+      ↔ ((length l ≡ recordLength) × ((accepted panel (stateOf l) ≡ true) × ((isHeld (stateOf l .hold) ≡ false)
       × (between 1 4 k ≡ false))))
   -- 5: "window to hold is not defined"
   pub number-5 : (holdC l k .answer ≡ 5)
-      ↔ ((length l ≡ 103) × ((accepted panel (stateOf l) ≡ true) × ((isHeld (stateOf l .hold) ≡ false)
+      ↔ ((length l ≡ recordLength) × ((accepted panel (stateOf l) ≡ true) × ((isHeld (stateOf l .hold) ≡ false)
       × ((between 1 4 k ≡ true) × (isDefined (windowAt (stateOf l .windows) k) ≡ false)))))
   pub number-0 : (holdC l k .answer ≡ 0)
-      ↔ ((length l ≡ 103) × ((accepted panel (stateOf l) ≡ true) × ((isHeld (stateOf l .hold) ≡ false)
+      ↔ ((length l ≡ recordLength) × ((accepted panel (stateOf l) ≡ true) × ((isHeld (stateOf l .hold) ≡ false)
       × ((between 1 4 k ≡ true) × (isDefined (windowAt (stateOf l .windows) k) ≡ true)))))
   pub refused : holdC l k .answer ≢ 0 → holdC l k .state ≡ l
   -- "Hold k drops a half-read command, saves all settings and the selected window, and selects k."
@@ -102,14 +102,14 @@ pub record HoldAnswersC (l : List ℕ) (k : ℕ) : Type 0 where
 
 pub record ReleaseAnswersC (l : List ℕ) : Type 0 where
   pub listed : oneOf (100 ∷ 0 ∷ 8 ∷ 7 ∷ []) (releaseC l .answer) ≡ true
-  pub number-100 : (releaseC l .answer ≡ 100) ↔ (length l ≢ 103)
+  pub number-100 : (releaseC l .answer ≡ 100) ↔ (length l ≢ recordLength)
   -- 8: "state record breaks a bound of this paper"
-  pub number-8 : (releaseC l .answer ≡ 8) ↔ ((length l ≡ 103) × NoState l)
+  pub number-8 : (releaseC l .answer ≡ 8) ↔ ((length l ≡ recordLength) × NoState l)
   -- 7: "release while not held"
   pub number-7 : (releaseC l .answer ≡ 7)
-      ↔ ((length l ≡ 103) × ((accepted panel (stateOf l) ≡ true) × (isHeld (stateOf l .hold) ≡ false)))
+      ↔ ((length l ≡ recordLength) × ((accepted panel (stateOf l) ≡ true) × (isHeld (stateOf l .hold) ≡ false)))
   pub number-0 : (releaseC l .answer ≡ 0)
-      ↔ ((length l ≡ 103) × ((accepted panel (stateOf l) ≡ true) × (isHeld (stateOf l .hold) ≡ true)))
+      ↔ ((length l ≡ recordLength) × ((accepted panel (stateOf l) ≡ true) × (isHeld (stateOf l .hold) ≡ true)))
   pub refused : releaseC l .answer ≢ 0 → releaseC l .state ≡ l
   -- "Release drops a half-read command and puts the saved settings and selection back"
   pub taken : releaseC l .answer ≡ 0 → releaseC l .state ≡ encoded (released (stateOf l))
@@ -118,17 +118,17 @@ pub record ReleaseAnswersC (l : List ℕ) : Type 0 where
 
 pub record RefreshAnswersC (l m glass : List ℕ) : Type 0 where
   pub listed : oneOf (100 ∷ 0 ∷ 1 ∷ 3 ∷ 8 ∷ []) (refreshC l m glass .answer .answer) ≡ true
-  pub number-100 : (refreshC l m glass .answer .answer ≡ 100) ↔ (length l ≢ 103)
+  pub number-100 : (refreshC l m glass .answer .answer ≡ 100) ↔ (length l ≢ recordLength)
   -- 1: "memory is not 1,024 bytes"
-  pub number-1 : (refreshC l m glass .answer .answer ≡ 1) ↔ ((length l ≡ 103) × (length m ≢ memoryLength panel))
+  pub number-1 : (refreshC l m glass .answer .answer ≡ 1) ↔ ((length l ≡ recordLength) × (length m ≢ memoryLength panel))
   -- 3: "glass is not 224 bytes"
   pub number-3 : (refreshC l m glass .answer .answer ≡ 3)
-      ↔ ((length l ≡ 103) × ((length m ≡ memoryLength panel) × (length glass ≢ glassLength panel)))
+      ↔ ((length l ≡ recordLength) × ((length m ≡ memoryLength panel) × (length glass ≢ glassLength panel)))
   -- 8: "state record breaks a bound of this paper"
   pub number-8 : (refreshC l m glass .answer .answer ≡ 8)
-      ↔ ((length l ≡ 103) × ((length m ≡ memoryLength panel) × ((length glass ≡ glassLength panel) × NoState l)))
+      ↔ ((length l ≡ recordLength) × ((length m ≡ memoryLength panel) × ((length glass ≡ glassLength panel) × NoState l)))
   pub number-0 : (refreshC l m glass .answer .answer ≡ 0)
-      ↔ ((length l ≡ 103) × ((length m ≡ memoryLength panel) × ((length glass ≡ glassLength panel) × (accepted panel (stateOf l) ≡ true))))
+      ↔ ((length l ≡ recordLength) × ((length m ≡ memoryLength panel) × ((length glass ≡ glassLength panel) × (accepted panel (stateOf l) ≡ true))))
   -- the record and the glass stay, and the count is 0
   pub refused : refreshC l m glass .answer .answer ≢ 0
       → (refreshC l m glass .state ≡ l) × (refreshC l m glass .answer .moved ≡ 0) × (refreshC l m glass .glass ≡ glass)
@@ -203,4 +203,4 @@ BegunInStepC font l m glass =
 
 -- a caller's buffer for the record
 abbrev pub someRecord : List ℕ
-someRecord = replicate 103 0xAA
+someRecord = replicate recordLength 0xAA

@@ -7,6 +7,7 @@ use Rattle.paper.specs.declared.Refusal.{Refusal}
 use Rattle.paper.specs.declared.State.{State}
 use Rattle.paper.specs.Numbers.{refusalNumber}
 use Rattle.demands.specs.Events.{Event, piece, refresh, Play, resting, fedThen, refreshedThen}
+use Rattle.record_write.specs.Bytes.{recordLength}
 use Rattle.record_read.specs.Record.{stateOf}
 use Rattle.panel_c.specs.Face.{feedC, refreshC}
 
@@ -26,7 +27,7 @@ playC font l m glass (refresh ∷ es) =
 
 -- the play c from C comes to what the play p of document 01's calls comes to: the record stands for the state, and the rest is equal
 pub record SamePlay (p : Play State Refusal) (c : PlayC) : Type 0 where
-  pub size : length (c .state) ≡ 103
+  pub size : length (c .state) ≡ recordLength
   pub state : stateOf (c .state) ≡ p .state
   pub mem : c .mem ≡ p .mem
   pub glass : c .glass ≡ p .glass

@@ -4,14 +4,13 @@
 use paper::Refusal;
 use paper::Spans;
 use paper::State;
+use record_write::RECORD;
 ghost use mathlib.Core.Path.{_≡_};
 ghost use lib.ListN.{length};
 ghost use Rattle.record_write.specs.Bytes.{recordLength};
 ghost use Rattle.panel_c.specs.Face.{recordAfter, spansAfter, starting, startC, feeding, feedC, calling, holdC, releaseC, refreshing, refreshC};
 
-// The length of a record, and the answer to a record of another length: no number of document 01.
-const RECORD: usize = 103;
-
+// The answer to a record of another length: no number of document 01.
 const WRONG_LENGTH: u32 = 100;
 
 // What a feed answers: its number, what the last byte came to, commands carried out, commands answered 11 to 17.

@@ -25,6 +25,7 @@ use Rattle.laws_state.proofs.Tests.{by-cond}
 use Rattle.record_half.specs.declared.Slots.{Slots}
 use Rattle.record_half.specs.Slots.{slots, halfSlots}
 use Rattle.record_half.proofs.Back.{half-back}
+use Rattle.record_write.specs.Bytes.{atFirst, atSecond, atThird, atFourth, atBase, atSelected, atHold, atHalf, atUpper, atLower}
 use Rattle.record_write.specs.Bytes.{low, high, windowsBytes, holdBytes, tailBytes, encoded}
 use Rattle.record_read.specs.Record.{settingsAt, cursorAt, windowFrom, spanAt, holdAt, slotsAt, decoded, same, broken, stateOf}
 use Rattle.record_read.proofs.Same.{same-self, same-eq}
@@ -81,44 +82,44 @@ state v ws k n h p ps =
     record { settings = v; windows = ws; base = k; selected = n; hold = h; half = p; spans = ps }
 
 module _ (s : State) where
-  first-back : windowFrom (encoded s) 11 ≡ windowAt (s .windows) 1
+  first-back : windowFrom (encoded s) atFirst ≡ windowAt (s .windows) 1
   unfolding encoded windowsBytes windowFrom cursorAt
   first-back = window-back (windowAt (s .windows) 1)
 
-  second-back : windowFrom (encoded s) 24 ≡ windowAt (s .windows) 2
+  second-back : windowFrom (encoded s) atSecond ≡ windowAt (s .windows) 2
   unfolding encoded windowsBytes windowFrom cursorAt
   second-back = window-back (windowAt (s .windows) 2)
 
-  third-back : windowFrom (encoded s) 37 ≡ windowAt (s .windows) 3
+  third-back : windowFrom (encoded s) atThird ≡ windowAt (s .windows) 3
   unfolding encoded windowsBytes windowFrom cursorAt
   third-back = window-back (windowAt (s .windows) 3)
 
-  fourth-back : windowFrom (encoded s) 50 ≡ windowAt (s .windows) 4
+  fourth-back : windowFrom (encoded s) atFourth ≡ windowAt (s .windows) 4
   unfolding encoded windowsBytes windowFrom cursorAt
   fourth-back = window-back (windowAt (s .windows) 4)
 
-  base-back : cursorAt (encoded s) 63 ≡ s .base
+  base-back : cursorAt (encoded s) atBase ≡ s .base
   unfolding encoded windowsBytes tailBytes cursorAt
   base-back = cursor-back (s .base)
 
 -- what stands after the hold is found by taking the hold apart
 module _ (v : Settings) (ws : List Window) (k : Cursor) (n : ℕ) (p : Half) (ps : List Span) where
-  hold-back : (h : Hold) → holdAt (encoded (state v ws k n h p ps)) 69 ≡ h
+  hold-back : (h : Hold) → holdAt (encoded (state v ws k n h p ps)) atHold ≡ h
   unfolding encoded windowsBytes tailBytes holdBytes holdAt
   hold-back Free = refl
   hold-back (Held a b u) = refl
 
-  tail-slots : (h : Hold) → slotsAt (encoded (state v ws k n h p ps)) 83 ≡ halfSlots p
+  tail-slots : (h : Hold) → slotsAt (encoded (state v ws k n h p ps)) atHalf ≡ halfSlots p
   unfolding encoded windowsBytes tailBytes holdBytes slotsAt
   tail-slots Free = slots-back (halfSlots p)
   tail-slots (Held a b u) = slots-back (halfSlots p)
 
-  upper-back : (h : Hold) → spanAt (encoded (state v ws k n h p ps)) 95 ≡ getD ps 0 noSpan
+  upper-back : (h : Hold) → spanAt (encoded (state v ws k n h p ps)) atUpper ≡ getD ps 0 noSpan
   unfolding encoded windowsBytes tailBytes holdBytes spanAt
   upper-back Free = span-back (getD ps 0 noSpan)
   upper-back (Held a b u) = span-back (getD ps 0 noSpan)
 
-  lower-back : (h : Hold) → spanAt (encoded (state v ws k n h p ps)) 99 ≡ getD ps 1 noSpan
+  lower-back : (h : Hold) → spanAt (encoded (state v ws k n h p ps)) atLower ≡ getD ps 1 noSpan
   unfolding encoded windowsBytes tailBytes holdBytes spanAt
   lower-back Free = span-back (getD ps 1 noSpan)
   lower-back (Held a b u) = span-back (getD ps 1 noSpan)
@@ -128,7 +129,7 @@ module _ (s : State) where
   unfolding encoded
   settings-back = refl
 
-  selected-back : getD (encoded s) 68 0 ≡ s .selected
+  selected-back : getD (encoded s) atSelected 0 ≡ s .selected
   unfolding encoded windowsBytes tailBytes
   selected-back = refl
 

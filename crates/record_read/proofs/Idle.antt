@@ -11,15 +11,15 @@ use Rattle.paper.specs.declared.Hold.the-variants.{Free}
 use Rattle.paper.specs.declared.Half.the-variants.{Nothing}
 use Rattle.laws_bytes.proofs.Tests.{both-of}
 use Rattle.record_half.specs.Slots.{halfSlots, halfOf}
-use Rattle.record_write.specs.Bytes.{holdBytes, encoded}
+use Rattle.record_write.specs.Bytes.{holdLength, halfLength, atHold, atHalf, recordLength, holdBytes, encoded}
 use Rattle.record_read.specs.Record.{reads, holdAt, slotsAt, decodedWith, decoded, Idle, same, stateOf}
 use Rattle.record_read.proofs.Written.{parts-decide}
 use Rattle.record_read.proofs.Stands.{stands}
 
 -- ---- the bytes tested one by one
 
-pub idle-more : {r : Bool} (l : List ℕ) (j : ℕ) → (r ≡ true → (k : ℕ) → 69 ≤ k → k < j → getD l k 0 ≡ 0)
-    → (r && eqb (getD l j 0) 0) ≡ true → (k : ℕ) → 69 ≤ k → k < j + 1 → getD l k 0 ≡ 0
+pub idle-more : {r : Bool} (l : List ℕ) (j : ℕ) → (r ≡ true → (k : ℕ) → atHold ≤ k → k < j → getD l k 0 ≡ 0)
+    → (r && eqb (getD l j 0) 0) ≡ true → (k : ℕ) → atHold ≤ k → k < j + 1 → getD l k 0 ≡ 0
 idle-more {r} l j so-far t k low high = go (eqb k j) refl where
   go : (z : Bool) → eqb k j ≡ z → getD l k 0 ≡ 0
   go true e = rw (eqb-true k j e) (eqb-true (getD l j 0) 0 (both-of r (eqb (getD l j 0) 0) t .1))
@@ -35,18 +35,18 @@ zero-same zero i l h = refl
 zero-same (suc n) i l h =
     rw (h i (omega arith) (omega arith)) (zero-same n (suc i) l (λ k a b. h k (omega arith) (omega arith)))
 
-module _ (l : List ℕ) (bytes : (k : ℕ) → getD l k 0 < 256) (long : length l ≡ 103) (idle : Idle l) where
+module _ (l : List ℕ) (bytes : (k : ℕ) → getD l k 0 < 256) (long : length l ≡ recordLength) (idle : Idle l) where
   -- its bytes are its state's own
   idle-same : same (encoded (decodedWith l Free Nothing)) l ≡ true
   unfolding holdBytes halfSlots
   idle-same =
       parts-decide l bytes Free Nothing long
-      ∙ ap₂ _&&_ (zero-same 14 69 l (λ k a b. idle k (omega arith) (omega arith))) (zero-same 12 83 l (λ k a b. idle k (omega arith) (omega arith)))
+      ∙ ap₂ _&&_ (zero-same holdLength atHold l (λ k a b. idle k (omega arith) (omega arith))) (zero-same halfLength atHalf l (λ k a b. idle k (omega arith) (omega arith)))
 
   -- nothing is held, nothing is half read
   decoded-idle : decodedWith l Free Nothing ≡ decoded l
   unfolding decoded holdAt slotsAt halfOf
-  decoded-idle = rw (idle 69 (omega arith) (omega arith), idle 83 (omega arith) (omega arith))
+  decoded-idle = rw (idle atHold (omega arith) (omega arith), idle atHalf (omega arith) (omega arith))
 
   -- the record stands for that state
   pub idle-stands : decodedWith l Free Nothing ≡ stateOf l

@@ -11,7 +11,7 @@ use Rattle.paper.specs.declared.State.{State}
 use Rattle.paper.specs.Settings.{withHold, withHalf}
 use Rattle.record_half.specs.declared.Slots.{Slots}
 use Rattle.record_half.specs.Slots.{halfOf}
-use Rattle.record_write.specs.Bytes.{encoded}
+use Rattle.record_write.specs.Bytes.{atHold, atHalf, encoded}
 use Rattle.record_read.specs.Record.{holdAt, slotsAt, decodedWith, decoded, same, broken, stateOf}
 
 module _ (l : List ℕ) {s : State} {t : Bool} (d : s ≡ decoded l) (e : t ≡ same (encoded s) l) where
@@ -28,7 +28,7 @@ module _ (l : List ℕ) {s : State} {t : Bool} (d : s ≡ decoded l) (e : t ≡ 
 -- the record read with nothing held or half read, and then what is
 module _
     (l : List ℕ) {s : State} {hold : Hold} {half : Half} {slots : Slots} {t : Bool}
-    (d : s ≡ decodedWith l Free Nothing) (h : hold ≡ holdAt l 69) (p : half ≡ halfOf slots) (q : slots ≡ slotsAt l 83)
+    (d : s ≡ decodedWith l Free Nothing) (h : hold ≡ holdAt l atHold) (p : half ≡ halfOf slots) (q : slots ≡ slotsAt l atHalf)
     (e : t ≡ same (encoded (decodedWith l hold half)) l) where
   read : decodedWith l hold half ≡ decoded l
   unfolding decoded

@@ -8,6 +8,8 @@ use lib.ListN.{length, getD}
 use Rattle.paper.specs.declared.Half.{Half}
 use Rattle.paper.specs.declared.Hold.{Hold}
 use Rattle.record_half.specs.Slots.{halfSlots}
+use Rattle.record_write.specs.Bytes.{settingsLength, windowLength, baseLength, holdLength, halfLength, spansLength, recordLength}
+use Rattle.record_write.specs.Bytes.{atFirst, atSecond, atThird, atFourth, atBase, atSelected, atHold, atHalf, atUpper, atLower}
 use Rattle.record_write.specs.Bytes.{low, high, windowBytes, windowsBytes, baseBytes, holdBytes, slotBytes, spanBytes, tailBytes, encoded}
 use Rattle.record_write.proofs.Laid.{hold-length}
 use Rattle.record_read.specs.Record.{reads, wordAt, cursorAt, windowFrom, spanAt, decodedWith, same}
@@ -39,10 +41,10 @@ module _ (l : List ℕ) (bytes : (k : ℕ) → getD l k 0 < 256) where
   unfolding windowFrom cursorAt
   window-same i = two i (two (i + 2) (two (i + 4) (two (i + 6) (two (i + 8) (two (i + 8 + 2) refl)))))
 
-  windows-same : windowsBytes (windowFrom l 11 ∷ windowFrom l 24 ∷ windowFrom l 37 ∷ windowFrom l 50 ∷ [])
-      ≡ reads 13 11 l ++ (reads 13 24 l ++ (reads 13 37 l ++ reads 13 50 l))
+  windows-same : windowsBytes (windowFrom l atFirst ∷ windowFrom l atSecond ∷ windowFrom l atThird ∷ windowFrom l atFourth ∷ [])
+      ≡ reads windowLength atFirst l ++ (reads windowLength atSecond l ++ (reads windowLength atThird l ++ reads windowLength atFourth l))
   unfolding windowsBytes
-  windows-same = ap₂ _++_ (window-same 11) (ap₂ _++_ (window-same 24) (ap₂ _++_ (window-same 37) (window-same 50)))
+  windows-same = ap₂ _++_ (window-same atFirst) (ap₂ _++_ (window-same atSecond) (ap₂ _++_ (window-same atThird) (window-same atFourth)))
 
   -- a span's
   span-same : (i : ℕ) → spanBytes (spanAt l i) ≡ getD l i 0 ∷ getD l (i + 1) 0 ∷ getD l (i + 2) 0 ∷ getD l (i + 2 + 1) 0 ∷ []
@@ -50,39 +52,39 @@ module _ (l : List ℕ) (bytes : (k : ℕ) → getD l k 0 < 256) where
   span-same i = two i (two (i + 2) refl)
 
   -- the base's, and the selection
-  base-same : baseBytes (cursorAt l 63) (getD l 68 0) ≡ reads 6 63 l
+  base-same : baseBytes (cursorAt l atBase) (getD l atSelected 0) ≡ reads baseLength atBase l
   unfolding cursorAt
-  base-same = two 63 (two 65 refl)
+  base-same = two atBase (two (atBase + 2) refl)
 
   -- ---- the whole record
 
   -- its own parts
-  own-parts : length l ≡ 103 → l ≡ reads 69 0 l ++ (reads 14 69 l ++ (reads 12 83 l ++ reads 8 95 l))
+  own-parts : length l ≡ recordLength → l ≡ reads atHold 0 l ++ (reads holdLength atHold l ++ (reads halfLength atHalf l ++ reads spansLength atUpper l))
   own-parts long = sym (reads-all l) ∙ ap (λ (n : ℕ). reads n 0 l) long
 
   module _ (hold : Hold) (half : Half) where
     tail-same : tailBytes (decodedWith l hold half)
-        ≡ reads 6 63 l ++ (holdBytes hold ++ (slotBytes (halfSlots half) ++ reads 8 95 l))
+        ≡ reads baseLength atBase l ++ (holdBytes hold ++ (slotBytes (halfSlots half) ++ reads spansLength atUpper l))
     unfolding tailBytes
     tail-same =
         ap₂ _++_ base-same
-        (ap (λ (t : List ℕ). holdBytes hold ++ (slotBytes (halfSlots half) ++ t)) (ap₂ _++_ (span-same 95) (span-same 99)))
+        (ap (λ (t : List ℕ). holdBytes hold ++ (slotBytes (halfSlots half) ++ t)) (ap₂ _++_ (span-same atUpper) (span-same atLower)))
 
     -- those of its state's record
     state-parts : encoded (decodedWith l hold half)
-        ≡ reads 69 0 l ++ (holdBytes hold ++ (slotBytes (halfSlots half) ++ reads 8 95 l))
+        ≡ reads atHold 0 l ++ (holdBytes hold ++ (slotBytes (halfSlots half) ++ reads spansLength atUpper l))
     unfolding encoded
-    state-parts = ap (λ (t : List ℕ). reads 11 0 l ++ t) (ap₂ _++_ windows-same tail-same)
+    state-parts = ap (λ (t : List ℕ). reads settingsLength 0 l ++ t) (ap₂ _++_ windows-same tail-same)
 
     -- the two records are the same where these two parts are
-    pub parts-decide : length l ≡ 103
-        → same (encoded (decodedWith l hold half)) l ≡ (same (holdBytes hold) (reads 14 69 l) && same (slotBytes (halfSlots half)) (reads 12 83 l))
+    pub parts-decide : length l ≡ recordLength
+        → same (encoded (decodedWith l hold half)) l ≡ (same (holdBytes hold) (reads holdLength atHold l) && same (slotBytes (halfSlots half)) (reads halfLength atHalf l))
     parts-decide long =
         ap₂ same state-parts (own-parts long)
-        ∙ same-between (reads 69 0 l) (holdBytes hold) (reads 14 69 l) (slotBytes (halfSlots half)) (reads 12 83 l) (reads 8 95 l) (hold-length hold) refl
+        ∙ same-between (reads atHold 0 l) (holdBytes hold) (reads holdLength atHold l) (slotBytes (halfSlots half)) (reads halfLength atHalf l) (reads spansLength atUpper l) (hold-length hold) refl
 
     -- a test of each
-    pub both-tested : {held read : List ℕ} {t u : Bool} → length l ≡ 103 → held ≡ holdBytes hold → read ≡ slotBytes (halfSlots half)
-        → t ≡ same held (reads (length held) 69 l) → u ≡ same read (reads (length read) 83 l)
+    pub both-tested : {held read : List ℕ} {t u : Bool} → length l ≡ recordLength → held ≡ holdBytes hold → read ≡ slotBytes (halfSlots half)
+        → t ≡ same held (reads (length held) atHold l) → u ≡ same read (reads (length read) atHalf l)
         → (t && u) ≡ same (encoded (decodedWith l hold half)) l
     both-tested long h p e f = rw (parts-decide long, e, f, h, p, hold-length hold)

@@ -16,6 +16,7 @@ use Rattle.paper.specs.declared.State.{State}
 use Rattle.paper.specs.Settings.{withSelected}
 use Rattle.record_half.specs.declared.Slots.{Slots}
 use Rattle.record_half.specs.Slots.{slots, halfOf}
+use Rattle.record_write.specs.Bytes.{atFirst, atSecond, atThird, atFourth, atBase, atSelected, atHold, atHalf, atUpper, atLower}
 use Rattle.record_write.specs.Bytes.{encoded}
 
 -- ---- any bytes, read by their places
@@ -80,22 +81,22 @@ abbrev pub decodedWith : List ℕ → Hold → Half → State
 decodedWith l hold half =
     record {
       settings = settingsAt l 0;
-      windows = windowFrom l 11 ∷ windowFrom l 24 ∷ windowFrom l 37 ∷ windowFrom l 50 ∷ [];
-      base = cursorAt l 63;
-      selected = getD l 68 0;
+      windows = windowFrom l atFirst ∷ windowFrom l atSecond ∷ windowFrom l atThird ∷ windowFrom l atFourth ∷ [];
+      base = cursorAt l atBase;
+      selected = getD l atSelected 0;
       hold = hold;
       half = half;
-      spans = spanAt l 95 ∷ spanAt l 99 ∷ [];
+      spans = spanAt l atUpper ∷ spanAt l atLower ∷ [];
     }
 
 unfoldable pub decoded : List ℕ → State
-decoded l = decodedWith l (holdAt l 69) (halfOf (slotsAt l 83))
+decoded l = decodedWith l (holdAt l atHold) (halfOf (slotsAt l atHalf))
 
 -- ---- the state that a record stands for
 
 -- the bytes of what is held and of what is half read are all 0: nothing is either
 abbrev pub Idle : List ℕ → Type 0
-Idle l = (k : ℕ) → 69 ≤ k → k < 95 → getD l k 0 ≡ 0
+Idle l = (k : ℕ) → atHold ≤ k → k < atUpper → getD l k 0 ≡ 0
 
 -- whether two lists are the same
 abbrev pub same : List ℕ → List ℕ → Bool

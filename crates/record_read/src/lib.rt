@@ -4,7 +4,7 @@ ghost use mathlib.Core.Path.{_≡_};
 ghost use mathlib.Core.Bool.{true};
 ghost use Prim.Native.Nat.{_+_, _≤_};
 ghost use lib.ListN.{length};
-ghost use Rattle.record_write.specs.Bytes.{recordLength, encoded};
+ghost use Rattle.record_write.specs.Bytes.{settingsLength, cursorLength, windowLength, holdLength, halfLength, spanLength, recordLength, encoded};
 ghost use Rattle.record_read.specs.Record.{wordAt, settingsAt, cursorAt, windowFrom, spanAt, holdAt, slotsAt, decodedWith, reads, Idle, same, stateOf};
 use paper::Cursor;
 use paper::Half;
@@ -15,6 +15,16 @@ use paper::State;
 use paper::Style;
 use paper::Window;
 use record_half::Slots;
+use record_write::AT_BASE;
+use record_write::AT_FIRST;
+use record_write::AT_FOURTH;
+use record_write::AT_HALF;
+use record_write::AT_HOLD;
+use record_write::AT_LOWER;
+use record_write::AT_SECOND;
+use record_write::AT_SELECTED;
+use record_write::AT_THIRD;
+use record_write::AT_UPPER;
 
 // ---- the state of bytes
 
@@ -28,7 +38,7 @@ fn word_at(l: &[u8], i: usize) -> u16
 
 // The settings.
 fn settings_at(l: &[u8], i: usize) -> Settings
-    requires { ⌜ i + 11 ≤ length (now l) ⌝ }
+    requires { ⌜ i + settingsLength ≤ length (now l) ⌝ }
     ensures { λ v. ⌜ v ≡ settingsAt (now (l .entry)) i ⌝ }
 {
     let style = Style {
@@ -51,7 +61,7 @@ fn settings_at(l: &[u8], i: usize) -> Settings
 
 // A cursor and its mode.
 fn cursor_at(l: &[u8], i: usize) -> Cursor
-    requires { ⌜ i + 5 ≤ length (now l) ⌝ }
+    requires { ⌜ i + cursorLength ≤ length (now l) ⌝ }
     ensures { λ k. ⌜ k ≡ cursorAt (now (l .entry)) i ⌝ }
 {
     Cursor {
@@ -63,7 +73,7 @@ fn cursor_at(l: &[u8], i: usize) -> Cursor
 
 // A user window.
 fn window_from(l: &[u8], i: usize) -> Window
-    requires { ⌜ i + 13 ≤ length (now l) ⌝ }
+    requires { ⌜ i + windowLength ≤ length (now l) ⌝ }
     ensures { λ w. ⌜ w ≡ windowFrom (now (l .entry)) i ⌝ }
 {
     let cursor = cursor_at(l, i + 8);
@@ -78,7 +88,7 @@ fn window_from(l: &[u8], i: usize) -> Window
 
 // A span.
 fn span_at(l: &[u8], i: usize) -> Span
-    requires { ⌜ i + 4 ≤ length (now l) ⌝ }
+    requires { ⌜ i + spanLength ≤ length (now l) ⌝ }
     ensures { λ p. ⌜ p ≡ spanAt (now (l .entry)) i ⌝ }
 {
     Span {
@@ -89,7 +99,7 @@ fn span_at(l: &[u8], i: usize) -> Span
 
 // What is held; a first byte other than 1 is taken for nothing, whose bytes are others.
 fn hold_at(l: &[u8], i: usize) -> Hold
-    requires { ⌜ i + 14 ≤ length (now l) ⌝ }
+    requires { ⌜ i + holdLength ≤ length (now l) ⌝ }
     ensures { λ h. ⌜ h ≡ holdAt (now (l .entry)) i ⌝ }
 {
     if l[i] == 1 {
@@ -105,7 +115,7 @@ fn hold_at(l: &[u8], i: usize) -> Hold
 
 // What is half read, laid flat.
 fn slots_at(l: &[u8], i: usize) -> Slots
-    requires { ⌜ i + 12 ≤ length (now l) ⌝ }
+    requires { ⌜ i + halfLength ≤ length (now l) ⌝ }
     ensures { λ t. ⌜ t ≡ slotsAt (now (l .entry)) i ⌝ }
 {
     Slots {
@@ -126,18 +136,18 @@ fn decode_with(l: &[u8], hold: Hold, half: Half) -> State
     ensures { λ s. ⌜ s ≡ decodedWith (now (l .entry)) hold half ⌝ }
 {
     let settings = settings_at(l, 0);
-    let a = window_from(l, 11);
-    let b = window_from(l, 24);
-    let c = window_from(l, 37);
-    let d = window_from(l, 50);
-    let base = cursor_at(l, 63);
-    let p = span_at(l, 95);
-    let q = span_at(l, 99);
+    let a = window_from(l, AT_FIRST);
+    let b = window_from(l, AT_SECOND);
+    let c = window_from(l, AT_THIRD);
+    let d = window_from(l, AT_FOURTH);
+    let base = cursor_at(l, AT_BASE);
+    let p = span_at(l, AT_UPPER);
+    let q = span_at(l, AT_LOWER);
     State {
         settings,
         windows: [a, b, c, d],
         base,
-        selected: l[68],
+        selected: l[AT_SELECTED],
         hold,
         half,
         spans: [p, q],
@@ -165,7 +175,7 @@ fn is_written(l: &[u8], hold: Hold, half: Half) -> bool
 {
     let held = record_write::hold_bytes(hold);
     let read = record_write::slot_bytes(record_half::half_slots(half));
-    is_at(&held, l, 69) & is_at(&read, l, 83)
+    is_at(&held, l, AT_HOLD) & is_at(&read, l, AT_HALF)
 }
 
 // Whether the bytes of what is held and of what is half read are all 0.
@@ -174,7 +184,7 @@ fn is_idle(l: &[u8]) -> bool
     ensures { λ r. ⌜ (r ≡ true → Idle (now (l .entry))) ⌝ }
 {
     let mut r = true;
-    for j in 69..95 {
+    for j in AT_HOLD..AT_UPPER {
         r = r & (l[j] == 0);
     }
     r
@@ -190,8 +200,8 @@ pub fn state_of(l: &[u8]) -> State
     if is_idle(l) {
         return s;
     }
-    let hold = hold_at(l, 69);
-    let half = record_half::half_of(slots_at(l, 83));
+    let hold = hold_at(l, AT_HOLD);
+    let half = record_half::half_of(slots_at(l, AT_HALF));
     if is_written(l, hold, half) {
         return State { hold, half, ..s };
     }

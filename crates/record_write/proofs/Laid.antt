@@ -1,5 +1,5 @@
 -- A record's parts, put one after the other, are the record; other spans change its end alone. Assumes nothing.
-use Prim.Native.Nat.{ℕ, suc, _+_, _<_, _≤_}
+use Prim.Native.Nat.{ℕ, suc, _+_, _-_, _<_, _≤_}
 use mathlib.Core.Path.{_≡_, refl, sym, ap, _∙_}
 use mathlib.Core.List.{List, [], _++_, append-assoc, append-nil}
 use lib.ListN.{length, getD, set, take, length-append, length-take}
@@ -16,7 +16,7 @@ use Rattle.paper.specs.declared.Hold.{Hold}
 use Rattle.paper.specs.declared.Hold.the-variants.{Free, Held}
 use Rattle.paper.specs.declared.State.{State}
 use Rattle.paper.specs.Settings.{makeState, withSpans}
-use Rattle.record_write.specs.Bytes.{holdBytes, windowsBytes, spansInto, tailBytes, encoded}
+use Rattle.record_write.specs.Bytes.{holdLength, atBase, recordLength, holdBytes, windowsBytes, spansInto, tailBytes, encoded}
 use Rattle.record_write.specs.Parts.{Put}
 
 -- ---- a part, byte by byte
@@ -67,16 +67,16 @@ ends {at} {l} {r} {x} e =
 
 -- ---- lengths
 
-pub hold-length : (h : Hold) → length (holdBytes h) ≡ 14
+pub hold-length : (h : Hold) → length (holdBytes h) ≡ holdLength
 unfolding holdBytes
 hold-length Free = refl
 hold-length (Held k back v) = refl
 
-tail-length : (s : State) → length (tailBytes s) ≡ 40
+tail-length : (s : State) → length (tailBytes s) ≡ recordLength - atBase
 unfolding tailBytes
 tail-length s = rw (length-append (holdBytes (s .hold)), hold-length (s .hold))
 
-pub encoded-length : (s : State) → length (encoded s) ≡ 103
+pub encoded-length : (s : State) → length (encoded s) ≡ recordLength
 unfolding encoded windowsBytes
 encoded-length s = rw (tail-length s)
 

@@ -1,5 +1,5 @@
 -- The state as a record of 103 bytes, for C. docs/RECORD.md has the same as a table. Assumes nothing.
-use Prim.Native.Nat.{ℕ, _/_, _%_}
+use Prim.Native.Nat.{ℕ, _+_, _/_, _%_}
 use mathlib.Core.List.{List, [], _∷_, _++_}
 use lib.ListN.{getD, take, replicate}
 use Rattle.paper.specs.declared.Settings.{Settings}
@@ -14,8 +14,68 @@ use Rattle.paper.specs.Settings.{windowAt}
 use Rattle.record_half.specs.declared.Slots.{Slots}
 use Rattle.record_half.specs.Slots.{halfSlots}
 
+-- ---- the layout: every other file has a length or a place by its name here
+
+-- how long each part is
+abbrev pub settingsLength : ℕ
+settingsLength = 11
+
+abbrev pub cursorLength : ℕ
+cursorLength = 5
+
+abbrev pub windowLength : ℕ
+windowLength = 8 + cursorLength
+
+abbrev pub baseLength : ℕ
+baseLength = cursorLength + 1
+
+abbrev pub holdLength : ℕ
+holdLength = 3 + settingsLength
+
+abbrev pub halfLength : ℕ
+halfLength = 12
+
+abbrev pub spanLength : ℕ
+spanLength = 4
+
+abbrev pub spansLength : ℕ
+spansLength = spanLength + spanLength
+
+-- where each begins, one after the other, and where the last one ends
+abbrev pub atFirst : ℕ
+atFirst = settingsLength
+
+abbrev pub atSecond : ℕ
+atSecond = atFirst + windowLength
+
+abbrev pub atThird : ℕ
+atThird = atSecond + windowLength
+
+abbrev pub atFourth : ℕ
+atFourth = atThird + windowLength
+
+abbrev pub atBase : ℕ
+atBase = atFourth + windowLength
+
+abbrev pub atSelected : ℕ
+atSelected = atBase + cursorLength
+
+abbrev pub atHold : ℕ
+atHold = atBase + baseLength
+
+abbrev pub atHalf : ℕ
+atHalf = atHold + holdLength
+
+abbrev pub atUpper : ℕ
+atUpper = atHalf + halfLength
+
+abbrev pub atLower : ℕ
+atLower = atUpper + spanLength
+
 abbrev pub recordLength : ℕ
-recordLength = 103
+recordLength = atUpper + spansLength
+
+-- ---- the bytes
 
 -- a 16-bit number is two bytes, low byte first
 abbrev pub low : ℕ → ℕ
@@ -62,9 +122,9 @@ windowsBytes ws =
 abbrev pub baseBytes : Cursor → ℕ → List ℕ
 baseBytes k selected = cursorBytes k ++ (selected ∷ [])
 
--- while nothing is held all 14 bytes are 0
+-- while nothing is held all its bytes are 0
 unfoldable pub holdBytes : Hold → List ℕ
-holdBytes Free = replicate 14 0
+holdBytes Free = replicate holdLength 0
 holdBytes (Held k back v) = 1 ∷ k ∷ back ∷ settingsBytes v
 
 abbrev pub slotBytes : Slots → List ℕ
@@ -91,7 +151,7 @@ spansBytes ps = spanBytes (getD ps 0 noSpan) ++ spanBytes (getD ps 1 noSpan)
 
 -- a record with these spans: the bytes before them stay as they are
 abbrev pub spansInto : List ℕ → List Span → List ℕ
-spansInto l ps = take 95 l ++ spansBytes ps
+spansInto l ps = take atUpper l ++ spansBytes ps
 
 -- what follows the windows
 unfoldable pub tailBytes : State → List ℕ

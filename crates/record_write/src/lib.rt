@@ -5,7 +5,7 @@ ghost use Prim.Native.Nat.{_+_, _≤_};
 ghost use lib.ListN.{length};
 ghost use Rattle.record_half.specs.Slots.{halfSlots};
 ghost use Rattle.record_write.specs.Parts.{Put};
-ghost use Rattle.record_write.specs.Bytes.{recordLength, settingsBytes, windowBytes, windowsBytes, baseBytes, holdBytes, slotBytes, spansBytes, spansInto, tailBytes, encoded};
+ghost use Rattle.record_write.specs.Bytes.{atFirst, atBase, recordLength, settingsBytes, windowBytes, windowsBytes, baseBytes, holdBytes, slotBytes, spansBytes, spansInto, tailBytes, encoded};
 use paper::Cursor;
 use paper::Half;
 use paper::Hold;
@@ -15,8 +15,52 @@ use paper::State;
 use paper::Window;
 use record_half::Slots;
 
+// ---- the layout, as specs/Bytes has it
+
+// How long each part is.
+pub const SETTINGS: usize = 11;
+
+pub const CURSOR: usize = 5;
+
+pub const WINDOW: usize = 8 + CURSOR;
+
+pub const BASE: usize = CURSOR + 1;
+
+pub const HOLD: usize = 3 + SETTINGS;
+
+pub const HALF: usize = 12;
+
+pub const SPAN: usize = 4;
+
+pub const SPANS: usize = SPAN + SPAN;
+
+// Where each begins, one after the other, and where the last one ends.
+pub const AT_FIRST: usize = SETTINGS;
+
+pub const AT_SECOND: usize = AT_FIRST + WINDOW;
+
+pub const AT_THIRD: usize = AT_SECOND + WINDOW;
+
+pub const AT_FOURTH: usize = AT_THIRD + WINDOW;
+
+pub const AT_BASE: usize = AT_FOURTH + WINDOW;
+
+pub const AT_SELECTED: usize = AT_BASE + CURSOR;
+
+pub const AT_HOLD: usize = AT_BASE + BASE;
+
+pub const AT_HALF: usize = AT_HOLD + HOLD;
+
+pub const AT_UPPER: usize = AT_HALF + HALF;
+
+pub const AT_LOWER: usize = AT_UPPER + SPAN;
+
+pub const RECORD: usize = AT_UPPER + SPANS;
+
+// ---- the bytes
+
 // The settings.
-fn settings_bytes(v: Settings) -> [u8; 11]
+fn settings_bytes(v: Settings) -> [u8; SETTINGS]
     ensures { λ r. ⌜ r ≡ settingsBytes v ⌝ }
 {
     let y = v.style;
@@ -36,7 +80,7 @@ fn settings_bytes(v: Settings) -> [u8; 11]
 }
 
 // A user window.
-fn window_bytes(w: Window) -> [u8; 13]
+fn window_bytes(w: Window) -> [u8; WINDOW]
     ensures { λ r. ⌜ r ≡ windowBytes w ⌝ }
 {
     let k = w.cursor;
@@ -58,7 +102,7 @@ fn window_bytes(w: Window) -> [u8; 13]
 }
 
 // The base window's cursor, and which window is selected.
-fn base_bytes(k: Cursor, selected: u8) -> [u8; 6]
+fn base_bytes(k: Cursor, selected: u8) -> [u8; BASE]
     ensures { λ r. ⌜ r ≡ baseBytes k selected ⌝ }
 {
     [
@@ -72,11 +116,11 @@ fn base_bytes(k: Cursor, selected: u8) -> [u8; 6]
 }
 
 // What is held.
-pub fn hold_bytes(hold: Hold) -> [u8; 14]
+pub fn hold_bytes(hold: Hold) -> [u8; HOLD]
     ensures { λ r. ⌜ r ≡ holdBytes hold ⌝ }
 {
     match hold {
-        Hold::Free => [0; 14],
+        Hold::Free => [0; HOLD],
         Hold::Held {
             window,
             selected,
@@ -104,7 +148,7 @@ pub fn hold_bytes(hold: Hold) -> [u8; 14]
 }
 
 // What is half read, laid flat.
-pub fn slot_bytes(t: Slots) -> [u8; 12]
+pub fn slot_bytes(t: Slots) -> [u8; HALF]
     ensures { λ r. ⌜ r ≡ slotBytes t ⌝ }
 {
     [
@@ -124,17 +168,17 @@ pub fn slot_bytes(t: Slots) -> [u8; 12]
 }
 
 // What is half read. Most often nothing is, and that takes no way over the slots.
-fn half_bytes(half: Half) -> [u8; 12]
+fn half_bytes(half: Half) -> [u8; HALF]
     ensures { λ r. ⌜ r ≡ slotBytes (halfSlots half) ⌝ }
 {
     match half {
-        Half::Nothing => [0; 12],
+        Half::Nothing => [0; HALF],
         _ => slot_bytes(record_half::half_slots(half)),
     }
 }
 
 // The spans of the two rows.
-fn spans_bytes(ps: Spans) -> [u8; 8]
+fn spans_bytes(ps: Spans) -> [u8; SPANS]
     ensures { λ r. ⌜ r ≡ spansBytes ps ⌝ }
 {
     let p = ps[0];
@@ -164,16 +208,16 @@ fn put(src: &[u8], to: &mut [u8], at: usize)
 // Puts the four user windows, after the settings.
 fn put_windows(ws: [Window; 4], to: &mut [u8])
     requires { ⌜ length (now to) ≡ recordLength ⌝ }
-    ensures { λ r. ⌜ Put 11 (now (to .entry)) (now (to .exit)) (windowsBytes ws) ⌝ }
+    ensures { λ r. ⌜ Put atFirst (now (to .entry)) (now (to .exit)) (windowsBytes ws) ⌝ }
 {
     let a = window_bytes(ws[0]);
-    put(&a, to, 11);
+    put(&a, to, AT_FIRST);
     let b = window_bytes(ws[1]);
-    put(&b, to, 24);
+    put(&b, to, AT_SECOND);
     let c = window_bytes(ws[2]);
-    put(&c, to, 37);
+    put(&c, to, AT_THIRD);
     let d = window_bytes(ws[3]);
-    put(&d, to, 50);
+    put(&d, to, AT_FOURTH);
 }
 
 // Writes the spans into a record, which they end, and leaves all before them.
@@ -182,24 +226,24 @@ pub fn put_spans(ps: Spans, to: &mut [u8])
     ensures { λ r. ⌜ now (to .exit) ≡ spansInto (now (to .entry)) ps ⌝ }
 {
     let a = spans_bytes(ps);
-    put(&a, to, 95);
+    put(&a, to, AT_UPPER);
 }
 
 // Puts what follows the windows.
 fn put_tail(s: State, to: &mut [u8])
     requires { ⌜ length (now to) ≡ recordLength ⌝ }
-    ensures { λ r. ⌜ Put 63 (now (to .entry)) (now (to .exit)) (tailBytes s) ⌝ }
+    ensures { λ r. ⌜ Put atBase (now (to .entry)) (now (to .exit)) (tailBytes s) ⌝ }
 {
     let base = s.base;
     let hold = s.hold;
     let half = s.half;
     let spans = s.spans;
     let a = base_bytes(base, s.selected);
-    put(&a, to, 63);
+    put(&a, to, AT_BASE);
     let b = hold_bytes(hold);
-    put(&b, to, 69);
+    put(&b, to, AT_HOLD);
     let c = half_bytes(half);
-    put(&c, to, 83);
+    put(&c, to, AT_HALF);
     put_spans(spans, to);
 }
 

@@ -82,5 +82,5 @@ fn sum(from: &[u8]) -> u64 {
 pub fn hold_sums(all: &[u8], r: Run, record: &[u8], mem: &[u8], glass: &[u8]) -> Run {
     let r = hold_to(input::four(all, r), sum(input::part(mem, 0, 1024)), 4);
     let r = hold_to(input::four(all, r), sum(input::part(glass, 0, 224)), 5);
-    hold_to(input::four(all, r), sum(input::part(record, 0, 103)), 6)
+    hold_to(input::four(all, r), sum(record), 6)
 }

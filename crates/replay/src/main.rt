@@ -8,6 +8,7 @@ ghost use lib.ListN.{length};
 use input::Run;
 use libc::STDIN_FILENO;
 use libc::STDOUT_FILENO;
+use record_write::RECORD;
 
 fn fill(buffer: &mut [u8], b: u8) {
     for i in 0..buffer.len() {
@@ -120,7 +121,7 @@ fn room() -> [u8; 1048576]
 
 fn main() {
     let mut room = room();
-    let mut record = [0u8; 103];
+    let mut record = [0u8; RECORD];
     let mut mem = io::buffer();
     let mut glass = io::buffer();
     let n = io::read_full(STDIN_FILENO, &mut room);

@@ -5,15 +5,16 @@ use mathlib.Core.Bool.{true}
 use lib.ListN.{getD}
 use native.Mathlib.Omega.{arith}
 use denote.Ref.{now}
+use Rattle.record_write.specs.Bytes.{atHold, atUpper}
 use Rattle.record_read.proofs.Idle.{idle-more}
 use Rattle.record_read.proofs.is_idle.Statement.{statement}
 use Rattle.record_read.proofs.is_idle.Tie as tie
 
 abbrev Inv-loop : tie.InvT-loop
-Inv-loop l r₀ j₀ r j = (69 ≤ j) × (j ≤ 95) × (r ≡ true → (k : ℕ) → 69 ≤ k → k < j → getD l k 0 ≡ 0)
+Inv-loop l r₀ j₀ r j = (atHold ≤ j) × (j ≤ atUpper) × (r ≡ true → (k : ℕ) → atHold ≤ k → k < j → getD l k 0 ≡ 0)
 
 abbrev μ-loop : tie.MeasureT-loop
-μ-loop l r₀ j₀ r j = 95 - j
+μ-loop l r₀ j₀ r j = atUpper - j
 
 loop-again : tie.Need-loop-again Inv-loop μ-loop
 loop-again c =

@@ -4,7 +4,7 @@ use Prim.Native.Nat.{ℕ, _+_}
 use native.Mathlib.Omega.{arith}
 use mathlib.Core.Path.{refl, ap}
 use borrow.Author.Needs.{needs}
-use Rattle.record_write.specs.Bytes.{tailBytes}
+use Rattle.record_write.specs.Bytes.{atHold, tailBytes}
 use Rattle.record_write.proofs.Laid.{known, after, ends, hold-length}
 use Rattle.record_write.proofs.put_tail.Statement.{statement}
 use Rattle.record_write.proofs.put_tail.Tie as tie
@@ -32,7 +32,7 @@ returns c =
     let base = hold .before .before .before .before .before .before in
     let slots = half .before .before .before .half-bytes .ensures in
     after refl (known (base .before .before .before .base-bytes .ensures) (base .put .ensures))
-    (after (ap (λ (n : ℕ). 69 + n) (hold-length _))
+    (after (ap (λ (n : ℕ). atHold + n) (hold-length _))
     (known (hold .before .before .before .hold-bytes .ensures) (hold .put2 .ensures))
     (after refl (known slots (half .put3 .ensures))
     (ends (spans .put-spans .ensures))))
