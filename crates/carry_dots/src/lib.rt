@@ -1,6 +1,6 @@
 // Carrying out what writes: the commands that write on memory, and an image's byte, each with the answers 15 and 16 that it can have.
-// It may use carry_state for the answer's form, state for the state's parts, and moves, moves_tab, text, cells, dots and spans for
-// what is written.
+// It may use carry_state for the answer's form, state and state_views for the state's parts, and moves, moves_tab, text, cells, dots
+// and spans for what is written.
 // Each contract says that what was done is what the paper's meaning says.
 use carry_state::Done;
 use moves::Spot;
@@ -30,7 +30,7 @@ pub fn spot_of(g: Module, s: State) -> Spot
     requires { ⌜ (s .selected ≤ 4) × (g .visible ≤ g .columns) ⌝ }
     ensures { λ r. ⌜ r ≡ spot (viewOf g s) (s .spans) ⌝ }
 {
-    let view = state::view_of(g, s);
+    let view = state_views::view_of(g, s);
     let spans = s.spans;
     Spot { view, spans }
 }
@@ -40,7 +40,7 @@ pub fn settle(s: State, p: Spot) -> State
     requires { ⌜ (s .selected ≤ 4) × (p .view .left + p .view .x < 65536) × (p .view .top + p .view .y < 65536) ⌝ }
     ensures { λ r. ⌜ r ≡ withSpans (withView s (p .view)) (p .spans) ⌝ }
 {
-    let t = state::with_view(s, p.view);
+    let t = state_views::with_view(s, p.view);
     let spans = p.spans;
     State { spans, ..t }
 }

@@ -1,5 +1,5 @@
 // Carrying out what writes nothing: the commands that change the state alone, each with its answers 14, 15, 11, 17, 16 in their order.
-// It may use state for the state's parts, and moves and glyphs for where a cursor goes; it knows nothing of memory.
+// It may use state and state_views for the state's parts, and moves and glyphs for where a cursor goes; it knows nothing of memory.
 // Each contract says that the state and the outcome are those of the paper's meaning, and that the meaning has no strokes.
 use glyphs::Cell;
 use paper::Command;
@@ -57,13 +57,13 @@ pub fn back(g: Module, s: State) -> Done
     requires { ⌜ Usable g × (accepted g s ≡ true) ⌝ }
     ensures { λ r. ⌜ ((font : List ℕ) → Says r (commandOf g font s Command.Back)) ⌝ }
 {
-    let view = state::view_of(g, s);
+    let view = state_views::view_of(g, s);
     let cell = cell_now(g, s);
     if is_too_large(view, cell) {
         return ends(s, Outcome::TooLarge);
     }
     let to = moves::back(view, cell.columns, cell.rows);
-    ends(state::with_view(s, to), Outcome::Carried)
+    ends(state_views::with_view(s, to), Outcome::Carried)
 }
 
 // HOM.
@@ -71,9 +71,9 @@ pub fn home(g: Module, s: State) -> Done
     requires { ⌜ Usable g × (accepted g s ≡ true) ⌝ }
     ensures { λ r. ⌜ ((font : List ℕ) → Says r (commandOf g font s Command.Home)) ⌝ }
 {
-    let view = state::view_of(g, s);
+    let view = state_views::view_of(g, s);
     let to = moves::to(view, 0, 0);
-    ends(state::with_view(s, to), Outcome::Carried)
+    ends(state_views::with_view(s, to), Outcome::Carried)
 }
 
 // CR.
@@ -81,9 +81,9 @@ pub fn carriage_return(g: Module, s: State) -> Done
     requires { ⌜ Usable g × (accepted g s ≡ true) ⌝ }
     ensures { λ r. ⌜ ((font : List ℕ) → Says r (commandOf g font s Command.Return)) ⌝ }
 {
-    let view = state::view_of(g, s);
+    let view = state_views::view_of(g, s);
     let to = moves::to(view, 0, view.y);
-    ends(state::with_view(s, to), Outcome::Carried)
+    ends(state_views::with_view(s, to), Outcome::Carried)
 }
 
 // ---- settings and windows; `held` says whether a window is held
@@ -111,7 +111,7 @@ pub fn mode(g: Module, s: State, n: u8) -> Done
     requires { ⌜ s .selected ≤ 4 ⌝ }
     ensures { λ r. ⌜ ((font : List ℕ) → Says r (commandOf g font s (Command.Mode n))) ⌝ }
 {
-    ends(state::in_mode(s, n), Outcome::Carried)
+    ends(state_views::in_mode(s, n), Outcome::Carried)
 }
 
 // A setting that one byte gives.
@@ -151,9 +151,12 @@ pub fn set_cursor(g: Module, s: State, x: u16, y: u16) -> Done
     requires { ⌜ s .selected ≤ 4 ⌝ }
     ensures { λ r. ⌜ ((font : List ℕ) → Says r (commandOf g font s (Command.CursorSet x y))) ⌝ }
 {
-    if state::inside_window(g, s, x, y) {
-        let c = state::cursor_of(s);
-        return ends(state::at_cursor(s, Cursor { x, y, ..c }), Outcome::Carried);
+    if state_views::inside_window(g, s, x, y) {
+        let c = state_views::cursor_of(s);
+        return ends(
+            state_views::at_cursor(s, Cursor { x, y, ..c }),
+            Outcome::Carried,
+        );
     }
     ends(s, Outcome::OutOfDomain)
 }

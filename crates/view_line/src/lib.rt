@@ -1,5 +1,6 @@
 // A command's line in a trace: its place in the stream, its bytes, its kind, the number and words of its outcome, and the current
-// window with its cursor. It is put into a lent buffer. It uses the paper, text put into a buffer, the kinds, and state for the cursor.
+// window with its cursor. It is put into a lent buffer. It uses the paper, text put into a buffer, the kinds, and state_views for the
+// cursor.
 use paper::Cursor;
 use paper::Outcome;
 use paper::State;
@@ -59,7 +60,7 @@ fn put_place(out: &mut [u8], at: usize, s: State) -> usize {
     if k > 4 {
         return view_text::end(out, at);
     }
-    put_cursor(out, at, k, state::cursor_of(s))
+    put_cursor(out, at, k, state_views::cursor_of(s))
 }
 
 // The whole line, from the start of the buffer.

@@ -1,9 +1,9 @@
--- `state::with_view` meets its contract: counted from memory where 0 is selected, else from the window. Assumes nothing.
+-- `state_views::with_view` meets its contract: counted from memory where 0 is selected, else from the window. Assumes nothing.
 use native.Mathlib.Omega.{arith}
 use borrow.Author.Tests.{eq-eqb, ne-eqb}
 use Rattle.paper.specs.Settings.{cursorIn}
-use Rattle.state.proofs.with_view.Statement.{statement}
-use Rattle.state.proofs.with_view.Tie as tie
+use Rattle.state_views.proofs.with_view.Statement.{statement}
+use Rattle.state_views.proofs.with_view.Tie as tie
 
 returns : tie.Need-returns
 unfolding cursorIn

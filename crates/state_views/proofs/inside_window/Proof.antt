@@ -1,9 +1,9 @@
--- `state::inside_window` meets its contract: the base where 0 is selected, else user window k. Assumes nothing.
+-- `state_views::inside_window` meets its contract: the base where 0 is selected, else user window k. Assumes nothing.
 use native.Mathlib.Omega.{arith}
 use borrow.Author.Tests.{eq-eqb, ne-eqb}
 use Rattle.paper.specs.Settings.{insideWindow}
-use Rattle.state.proofs.inside_window.Statement.{statement}
-use Rattle.state.proofs.inside_window.Tie as tie
+use Rattle.state_views.proofs.inside_window.Statement.{statement}
+use Rattle.state_views.proofs.inside_window.Tie as tie
 
 returns : tie.Need-returns
 unfolding insideWindow

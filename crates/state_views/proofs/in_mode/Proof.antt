@@ -1,7 +1,7 @@
--- `state::in_mode` meets its contract: the cursor that is put back is the one read, in the new mode. Assumes nothing.
+-- `state_views::in_mode` meets its contract: the cursor that is put back is the one read, in the new mode. Assumes nothing.
 use Rattle.paper.specs.Settings.{inMode}
-use Rattle.state.proofs.in_mode.Statement.{statement}
-use Rattle.state.proofs.in_mode.Tie as tie
+use Rattle.state_views.proofs.in_mode.Statement.{statement}
+use Rattle.state_views.proofs.in_mode.Tie as tie
 
 returns : tie.Need-returns
 unfolding inMode

@@ -1,9 +1,9 @@
--- `state::base_view` meets its contract: all of memory, its visible part, or its hidden part. Assumes nothing.
+-- `state_views::base_view` meets its contract: all of memory, its visible part, or its hidden part. Assumes nothing.
 use native.Mathlib.Omega.{arith}
 use borrow.Author.Tests.{eq-eqb, ne-eqb, lt-ltb, le-ltb}
 use Rattle.paper.specs.Settings.{baseView}
-use Rattle.state.proofs.base_view.Statement.{statement}
-use Rattle.state.proofs.base_view.Tie as tie
+use Rattle.state_views.proofs.base_view.Statement.{statement}
+use Rattle.state_views.proofs.base_view.Tie as tie
 
 returns : tie.Need-returns
 unfolding baseView

@@ -1,9 +1,9 @@
--- `state::view_of` meets its contract: the base where 0 is selected, else user window k. Assumes nothing.
+-- `state_views::view_of` meets its contract: the base where 0 is selected, else user window k. Assumes nothing.
 use native.Mathlib.Omega.{arith}
 use borrow.Author.Tests.{eq-eqb, ne-eqb}
 use Rattle.paper.specs.Settings.{viewOf}
-use Rattle.state.proofs.view_of.Statement.{statement}
-use Rattle.state.proofs.view_of.Tie as tie
+use Rattle.state_views.proofs.view_of.Statement.{statement}
+use Rattle.state_views.proofs.view_of.Tie as tie
 
 returns : tie.Need-returns
 unfolding viewOf

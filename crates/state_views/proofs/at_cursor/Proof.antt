@@ -1,9 +1,9 @@
--- `state::at_cursor` meets its contract: the base where 0 is selected, else user window k. Assumes nothing.
+-- `state_views::at_cursor` meets its contract: the base where 0 is selected, else user window k. Assumes nothing.
 use native.Mathlib.Omega.{arith}
 use borrow.Author.Tests.{eq-eqb, ne-eqb}
 use Rattle.paper.specs.Settings.{atCursor}
-use Rattle.state.proofs.at_cursor.Statement.{statement}
-use Rattle.state.proofs.at_cursor.Tie as tie
+use Rattle.state_views.proofs.at_cursor.Statement.{statement}
+use Rattle.state_views.proofs.at_cursor.Tie as tie
 
 returns : tie.Need-returns
 unfolding atCursor
