@@ -16,7 +16,8 @@ use Rattle.laws_state.proofs.Sized.{start-sized}
 use Rattle.demands.specs.Demands.{someMemory}
 use Rattle.record_write.specs.Bytes.{recordLength, encoded}
 use Rattle.record_write.proofs.Laid.{encoded-length}
-use Rattle.record_read.specs.Record.{settingsAt, stateOf}
+use Rattle.record_parts.specs.Parts.{settingsAt}
+use Rattle.record_read.specs.Record.{stateOf}
 use Rattle.record_read.proofs.Back.{read-back}
 use Rattle.panel_c.proofs.Laws.{NoState}
 use Rattle.demands_c.specs.Demands.{someRecord}

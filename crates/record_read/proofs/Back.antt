@@ -27,7 +27,8 @@ use Rattle.record_half.specs.Slots.{slots, halfSlots}
 use Rattle.record_half.proofs.Back.{half-back}
 use Rattle.record_write.specs.Bytes.{atFirst, atSecond, atThird, atFourth, atBase, atSelected, atHold, atHalf, atUpper, atLower}
 use Rattle.record_write.specs.Bytes.{low, high, windowsBytes, holdBytes, tailBytes, encoded}
-use Rattle.record_read.specs.Record.{settingsAt, cursorAt, windowFrom, spanAt, holdAt, slotsAt, decoded, same, broken, stateOf}
+use Rattle.record_parts.specs.Parts.{settingsAt, cursorAt, windowFrom, spanAt, holdAt, slotsAt}
+use Rattle.record_read.specs.Record.{decoded, same, broken, stateOf}
 use Rattle.record_read.proofs.Same.{same-self, same-eq}
 
 -- ---- the parts

@@ -12,7 +12,8 @@ use Rattle.paper.specs.Settings.{withHold, withHalf}
 use Rattle.record_half.specs.declared.Slots.{Slots}
 use Rattle.record_half.specs.Slots.{halfOf}
 use Rattle.record_write.specs.Bytes.{atHold, atHalf, encoded}
-use Rattle.record_read.specs.Record.{holdAt, slotsAt, decodedWith, decoded, same, broken, stateOf}
+use Rattle.record_parts.specs.Parts.{holdAt, slotsAt, decodedWith}
+use Rattle.record_read.specs.Record.{decoded, same, broken, stateOf}
 
 module _ (l : List ℕ) {s : State} {t : Bool} (d : s ≡ decoded l) (e : t ≡ same (encoded s) l) where
   -- the bytes of its state are the record's

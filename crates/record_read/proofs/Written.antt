@@ -12,7 +12,8 @@ use Rattle.record_write.specs.Bytes.{settingsLength, windowLength, baseLength, 
 use Rattle.record_write.specs.Bytes.{atFirst, atSecond, atThird, atFourth, atBase, atSelected, atHold, atHalf, atUpper, atLower}
 use Rattle.record_write.specs.Bytes.{low, high, windowBytes, windowsBytes, baseBytes, holdBytes, slotBytes, spanBytes, tailBytes, encoded}
 use Rattle.record_write.proofs.Laid.{hold-length}
-use Rattle.record_read.specs.Record.{reads, wordAt, cursorAt, windowFrom, spanAt, decodedWith, same}
+use Rattle.record_parts.specs.Parts.{wordAt, cursorAt, windowFrom, spanAt, decodedWith}
+use Rattle.record_read.specs.Record.{reads, same}
 use Rattle.record_read.proofs.Same.{same-between}
 
 -- ---- a list by its bytes

@@ -1,14 +1,13 @@
 // Plays calls stored as bytes (docs/SCRIPTS.md, "Calls as bytes") on the C face, and holds each to what is stored with it. Standard
 // input has the entries. It writes how many calls were played, and what the last of them differs in, if it does.
 mod calls;
-mod input;
 
 ghost use mathlib.Core.Path.{_≡_};
 ghost use lib.ListN.{length};
-use input::Run;
 use libc::STDIN_FILENO;
 use libc::STDOUT_FILENO;
 use record_write::RECORD;
+use replay_input::Run;
 
 fn fill(buffer: &mut [u8], b: u8) {
     for i in 0..buffer.len() {
@@ -27,7 +26,7 @@ fn begin(run: Run, record: &mut [u8], mem: &mut [u8], glass: &mut [u8]) -> Run {
 // Byte n of the record is the next byte of the input.
 fn put(all: &[u8], run: Run, record: &mut [u8]) -> Run {
     let at = run.n as usize;
-    let next = input::byte(all, run);
+    let next = replay_input::byte(all, run);
     if at < record.len() {
         record[at] = next.n as u8;
     }
@@ -45,7 +44,7 @@ fn prepare(
 ) -> Run {
     let n = r.n;
     match kind {
-        0 => input::skip(all, r),
+        0 => replay_input::skip(all, r),
         1 => Run { font_at: n, ..r },
         2 => Run { mem: n, ..r },
         3 => Run { font: n, ..r },
@@ -74,13 +73,13 @@ fn play_next(all: &[u8], run: Run, record: &mut [u8], mem: &mut [u8], glass: &mu
     if run.differs != 0 {
         return run;
     }
-    let one = input::byte(all, run);
+    let one = replay_input::byte(all, run);
     let kind = one.n as u8;
-    let r = input::number(all, one);
+    let r = replay_input::number(all, one);
     if kind < 7 {
         return prepare(kind, all, r, record, mem, glass);
     }
-    calls::hold_sums(
+    replay_input::hold_sums(
         all,
         call(kind, all, r, record, mem, glass),
         record,
@@ -91,7 +90,7 @@ fn play_next(all: &[u8], run: Run, record: &mut [u8], mem: &mut [u8], glass: &mu
 
 // Plays all entries: there are no more of them than bytes.
 fn play_all(all: &[u8], record: &mut [u8], mem: &mut [u8], glass: &mut [u8]) -> Run {
-    let mut run = input::begin();
+    let mut run = replay_input::begin();
     for _ in 0..all.len() {
         run = play_next(all, run, record, mem, glass);
     }

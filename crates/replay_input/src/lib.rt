@@ -1,6 +1,9 @@
-// The stored bytes, and where the playing of them stands. What lies past their end is 0.
-ghost use Prim.Native.Nat.{_≤_};
+// The stored bytes, where the playing of them stands, and whether a call gives and leaves what is stored. What lies past their end
+// is 0. It knows no panel, and uses no other crate.
+ghost use Prim.Native.Nat.{_<_, _≤_, _^_};
 ghost use lib.ListN.{length};
+
+// ---- the stored bytes
 
 // The next byte, the number read last, the calls made, the lengths that are lent, the font's place, and what of the last call
 // differs: 1 its answer, 2 its outcome, 3 a count, 4 memory, 5 glass, 6 record; 0 nothing.
@@ -94,4 +97,51 @@ pub fn number(all: &[u8], run: Run) -> Run {
         return one;
     }
     four(all, one)
+}
+
+// ---- what a call gives and leaves
+
+// Holds a number to the one read last. The first thing that differs stays.
+fn hold_to(run: Run, seen: u64, what: u8) -> Run {
+    let mut r = run;
+    if r.differs == 0 {
+        if r.n != seen {
+            r.differs = what;
+        }
+    }
+    r
+}
+
+// Holds the numbers that a call gives: n counts commands carried out, or bytes moved; m commands answered.
+pub fn hold_numbers(all: &[u8], run: Run, answer: u32, outcome: u32, n: usize, m: usize) -> Run {
+    let mut r = run;
+    r.calls = std::num::wrapping_add_u64(r.calls, 1);
+    let r = hold_to(number(all, r), answer as u64, 1);
+    let r = hold_to(number(all, r), outcome as u64, 2);
+    let r = hold_to(number(all, r), n as u64, 3);
+    hold_to(number(all, r), m as u64, 3)
+}
+
+// One step of FNV-1a.
+fn stir(sum: u64, b: u8) -> u64
+    requires { ⌜ sum < 2 ^ 32 ⌝ }
+    ensures { λ r. ⌜ r < 2 ^ 32 ⌝ }
+{
+    (sum ^ (b as u64)) * 16777619 % 4294967296
+}
+
+// FNV-1a, 32 bits.
+fn sum(from: &[u8]) -> u64 {
+    let mut sum: u64 = 2166136261;
+    for i in 0..from.len() {
+        sum = stir(sum, from[i]);
+    }
+    sum
+}
+
+// Holds the sums of what a call leaves.
+pub fn hold_sums(all: &[u8], r: Run, record: &[u8], mem: &[u8], glass: &[u8]) -> Run {
+    let r = hold_to(four(all, r), sum(part(mem, 0, 1024)), 4);
+    let r = hold_to(four(all, r), sum(part(glass, 0, 224)), 5);
+    hold_to(four(all, r), sum(record), 6)
 }

@@ -1,9 +1,9 @@
 -- `hold_at` meets its contract: an arm for a window that is held, and one for none. Assumes nothing.
 use borrow.Author.Needs.{needs}
 use borrow.Author.Tests.{eq-eqb, ne-eqb}
-use Rattle.record_read.specs.Record.{holdAt}
-use Rattle.record_read.proofs.hold_at.Statement.{statement}
-use Rattle.record_read.proofs.hold_at.Tie as tie
+use Rattle.record_parts.specs.Parts.{holdAt}
+use Rattle.record_parts.proofs.hold_at.Statement.{statement}
+use Rattle.record_parts.proofs.hold_at.Tie as tie
 
 pub hold-at-spec : {M : Type 1} → statement M
 unfolding holdAt

@@ -1,10 +1,10 @@
--- `replay::calls::sum` is safe and ends: a sum stays below 2³².
+-- `replay_input::sum` is safe and ends: a sum stays below 2³².
 use borrow.Author.Needs.{needs}
 use Prim.Native.Nat.{_<_, _-_, _^_}
 use lib.ListN.{length}
 use mathlib.Core.Path.{_≡_}
-use Rattle.replay.proofs.calls.sum.Statement.{statement}
-use Rattle.replay.proofs.calls.sum.Tie as tie
+use Rattle.replay_input.proofs.sum.Statement.{statement}
+use Rattle.replay_input.proofs.sum.Tie as tie
 
 abbrev Inv-loop : tie.InvT-loop
 Inv-loop from sum₀ i₀ i-end sum i = (sum < 2 ^ 32) × (i-end ≡ length from)

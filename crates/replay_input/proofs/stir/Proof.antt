@@ -1,9 +1,9 @@
--- `replay::calls::stir` is safe and meets its contract: 32 bits stay 32 bits.
+-- `replay_input::stir` is safe and meets its contract: 32 bits stay 32 bits.
 use borrow.Author.Needs.{needs}
 use native.Mathlib.Omega.{arith}
 use lib.Bits.{xor-lt}
-use Rattle.replay.proofs.calls.stir.Statement.{statement}
-use Rattle.replay.proofs.calls.stir.Tie as tie
+use Rattle.replay_input.proofs.stir.Statement.{statement}
+use Rattle.replay_input.proofs.stir.Tie as tie
 
 pub stir-spec : {M : Type 1} → statement M
 stir-spec =

@@ -1,8 +1,8 @@
 -- `slots_at` meets its contract. Assumes nothing.
 use borrow.Author.Needs.{needs}
-use Rattle.record_read.specs.Record.{slotsAt}
-use Rattle.record_read.proofs.slots_at.Statement.{statement}
-use Rattle.record_read.proofs.slots_at.Tie as tie
+use Rattle.record_parts.specs.Parts.{slotsAt}
+use Rattle.record_parts.proofs.slots_at.Statement.{statement}
+use Rattle.record_parts.proofs.slots_at.Tie as tie
 
 pub slots-at-spec : {M : Type 1} → statement M
 unfolding slotsAt
