@@ -1,5 +1,5 @@
 // Spans: a row's span grows to include a written column, and both rows' spans grow by a written rectangle: `mark`.
-// The span is lent by `&mut` to a thin function over one by value. Whoever grows a span calls `grown_by`, whose parameters are plain.
+// The span is lent by `&mut` to a thin function over one by value; `mark` grows its spans by `grown_by`, whose parameters are plain.
 // It may use the paper and the laws of the memory.
 use paper::Rect;
 use paper::Span;
