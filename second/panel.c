@@ -1,8 +1,9 @@
 /* The dot panel's command interpreter, the second program.
  *
- * The words in quotes above the functions are document 01's. In order: the
- * state and its bounds (number 8), the reader, the range and the drawing, the
- * moves, the commands with their answers, the five calls. */
+ * The words in quotes above the functions are document 01's, or those of the
+ * order of document 02 named beside them. In order: the state and its bounds
+ * (number 8), the reader, the range and the drawing, the moves, the commands
+ * with their answers, the five calls. */
 #include "panel.h"
 
 #include <string.h>
@@ -1017,19 +1018,21 @@ static void move_bs(struct work *k)
     }
 }
 
-/* "LF: MD1: if y + 2L ≤ H, L rows down; else top row, same column. MD2: with
- * room the same; else scroll up L rows, zero the lowest L, no move. MD3:
- * nothing." */
+/* "LF: MD1: if y + 2L ≤ H, L rows down; else" "top row, left end" (order 1).
+ * "MD2: with room the same; else scroll up L rows, zero the lowest L, no move.
+ * MD3: nothing." */
 static void move_lf(struct work *k)
 {
     if (k->place->mode == 3)
         return;
-    if (has_room_below(k))
+    if (has_room_below(k)) {
         k->y += k->L;
-    else if (k->place->mode == 1)
+    } else if (k->place->mode == 1) {
+        k->x = 0;
         k->y = 0;
-    else
+    } else {
         scroll_up(k);
+    }
 }
 
 /* "HOM (0,0)." */

@@ -1,8 +1,9 @@
 /* The dot panel's command interpreter, the second program.
  *
- * Written from document 01 alone ("this paper" below). Every call answers the
- * number of its refusal, 0 if it is not refused. A refused call changes
- * nothing lent and nothing in the state, and every count it gives back is 0.
+ * Written from document 01 ("this paper" below) and order 1 of document 02
+ * alone. Every call answers the number of its refusal, 0 if it is not refused.
+ * A refused call changes nothing lent and nothing in the state, and every count
+ * it gives back is 0.
  */
 #ifndef SECOND_PANEL_H
 #define SECOND_PANEL_H
