@@ -7,7 +7,9 @@
  *
  * Link: `rt staticlib panel_c` writes target/staticlib/libpanel_c.a (x86-64), and
  * `cc yours.c target/staticlib/libpanel_c.a` needs no other library. examples/
- * has a receiver. The numbers are document 01's; docs/RECORD.md has the record.
+ * has a receiver. The numbers are document 01's; docs/RECORD.md has the record,
+ * docs/MANUAL.md the commands. They are document 01's with document 02's order 1:
+ * LF in MD1 without room below goes to the range's top left, as 001, 5-1-4 says.
  *
  * Stack, on x86-64: a feed needs some 3,000 bytes, every other call below 1,000
  * (docs/MEASURED.md).

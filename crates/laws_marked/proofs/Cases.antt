@@ -20,14 +20,9 @@ use Rattle.paper.specs.Moves.{nextLine, nextLineUp, pushLeft, htOf, drawTab, bl
 use Rattle.paper.specs.Carry.{asks, isHeld, carriedOut, commandOf, takeOf, byteMeans}
 use Rattle.paper.specs.Calls.{isAccepted, startRefusal, startCall, feedRefusal, Feeding, next, run, fedNothing, feedCall, holdRefusal, heldBy, holdCall, refreshRefusal, emptied, refreshCall}
 use Rattle.laws_bytes.proofs.Dots.{byte-rule}
+use Rattle.laws_marked.proofs.Fed.{runs, on, onOver, mem-of}
 use Rattle.laws_marked.proofs.Typed.{runs-alike}
 use Rattle.laws_marked.specs.Marked.{Font, begun, fresh, freshState, fed, fedOver, answersTo, cursorAfter, nextRefresh, rows, _of_, column, glyph, glyphLow, Characters, cursorSet, md2, md3, windowOne, image, held, fedHeld, Marked}
-
--- a feed that is not refused runs over its piece
-runs : (font : List ℕ) (s : State) (m piece : List ℕ) → length font ≡ 1120 → eqb (length m) 1024 ≡ true → accepted panel s ≡ true
-    → feedCall panel font s m piece ≡ run panel font (fedNothing Accepted s m) piece
-unfolding feedCall feedRefusal isAccepted refusalNumber panel
-runs font s m piece f l a = rw (f, l, a)
 
 -- ---- the dots of the glyph of 41h as bytes
 
@@ -79,63 +74,57 @@ pub marked : (font : List ℕ) → Font font → Marked font
 unfolding begun fresh startCall startRefusal isAccepted refreshCall refreshRefusal emptied refreshed shown panel byteOf glyphDot rectMap grown grownBy outcomeNumber refusalNumber carriedBy answeredBy readMove readFirst readEscape readUnit readGroup readImages readWindows readWindowB readWord readOf initialStyle initialSettings topLeft initialState inDomain inEnlargement selectable fits cursorOf atCursor inMode insideWindow baseView viewOf cursorIn settingsOk cursorOk isBlank windowOk windowsOk holdOk spanOk wordOk halfOk accepted cellDot penned cellWidth tooLarge nextLine nextLineUp pushLeft htOf drawTab blankTab characterOf lineDown lineDownUp lineFeedOf clearOf asks isHeld carriedOut commandOf takeOf byteMeans next holdRefusal heldBy holdCall dotsBelow dotsAbove
 marked font f = record {
   fresh-memory = refl;
-  case-1 = on [];
+  case-1 = on f [];
   case-2 = (
-    λ b. mem (onOver b (0x41 ∷ [])) ∙ ap (λ (l : List ℕ). rows (0 ∷ l ++ 0 ∷ 505 of b) (512 of b)) below,
-    ap cursorAfter (on (0x41 ∷ [])),
-    ap nextRefresh (on (0x41 ∷ [])),
+    λ b. mem-of (onOver f b (0x41 ∷ [])) ∙ ap (λ (l : List ℕ). rows (0 ∷ l ++ 0 ∷ 505 of b) (512 of b)) below,
+    ap cursorAfter (on f (0x41 ∷ [])),
+    ap nextRefresh (on f (0x41 ∷ [])),
   );
-  case-3 = λ codes n i. ap cursorAfter (on codes) ∙ ap cursorOf (typed codes n i);
+  case-3 = λ codes n i. ap cursorAfter (on f codes) ∙ ap cursorOf (typed codes n i);
   case-4 = (
-    λ b. mem (onOver b (cursorSet 106 0 0 0 ++ 0x41 ∷ []))
+    λ b. mem-of (onOver f b (cursorSet 106 0 0 0 ++ 0x41 ∷ []))
         ∙ ap (λ (l : List ℕ). rows (106 of b ++ 6 of 0 ++ 400 of b) (0 ∷ l ++ 0 ∷ 505 of b)) above,
-    ap cursorAfter (on (cursorSet 106 0 0 0 ++ 0x41 ∷ [])),
+    ap cursorAfter (on f (cursorSet 106 0 0 0 ++ 0x41 ∷ [])),
   );
   case-5 = (
-    ap answersTo (on (cursorSet 0x00 0x02 0x00 0x00)),
-    ap cursorAfter (on (cursorSet 0x00 0x02 0x00 0x00)),
-    ap cursorAfter (on (cursorSet 0xFF 0x01 0x01 0x00)),
+    ap answersTo (on f (cursorSet 0x00 0x02 0x00 0x00)),
+    ap cursorAfter (on f (cursorSet 0x00 0x02 0x00 0x00)),
+    ap cursorAfter (on f (cursorSet 0xFF 0x01 0x01 0x00)),
   );
   case-6 = (
-    ap answersTo (on (image 0x00 0x00)),
-    λ b. mem (onOver b (image 0x00 0x00)),
-    ap answersTo (on (image 0x00 0x00 ++ 0x0C ∷ [])),
-    λ b. mem (onOver b (image 0x00 0x00 ++ 0x0C ∷ [])),
-    ap (λ (t : Feeding). t .answer .carried) (on (image 0x00 0x00 ++ 0x0C ∷ [])),
-    ap (λ (t : Feeding). t .answer .answered) (on (image 0x00 0x00 ++ 0x0C ∷ [])),
+    ap answersTo (on f (image 0x00 0x00)),
+    λ b. mem-of (onOver f b (image 0x00 0x00)),
+    ap answersTo (on f (image 0x00 0x00 ++ 0x0C ∷ [])),
+    λ b. mem-of (onOver f b (image 0x00 0x00 ++ 0x0C ∷ [])),
+    ap (λ (t : Feeding). t .answer .carried) (on f (image 0x00 0x00 ++ 0x0C ∷ [])),
+    ap (λ (t : Feeding). t .answer .answered) (on f (image 0x00 0x00 ++ 0x0C ∷ [])),
   );
-  case-7 = (ap answersTo (on (image 0x00 0x02)), ap answersTo (on (image 0x01 0x02)));
-  case-8 = ap cursorAfter (on (cursorSet 14 0 1 0 ++ 0x0A ∷ []));
+  case-7 = (ap answersTo (on f (image 0x00 0x02)), ap answersTo (on f (image 0x01 0x02)));
+  case-8 = ap cursorAfter (on f (cursorSet 14 0 1 0 ++ 0x0A ∷ []));
   case-9 = (
-    λ b. mem (onOver b (md2 ++ cursorSet 0 0 1 0 ++ 0x41 ∷ 0x0A ∷ []))
+    λ b. mem-of (onOver f b (md2 ++ cursorSet 0 0 1 0 ++ 0x41 ∷ 0x0A ∷ []))
         ∙ ap (λ (l : List ℕ). rows (0 ∷ l ++ 0 ∷ 505 of b) (112 of 0 ++ 400 of b)) above,
-    ap cursorAfter (on (md2 ++ cursorSet 0 0 1 0 ++ 0x41 ∷ 0x0A ∷ [])),
+    ap cursorAfter (on f (md2 ++ cursorSet 0 0 1 0 ++ 0x41 ∷ 0x0A ∷ [])),
   );
   case-10 = (
-    λ b. mem (onOver b (md3 ++ cursorSet 105 0 0 0 ++ 0x41 ∷ []))
+    λ b. mem-of (onOver f b (md3 ++ cursorSet 105 0 0 0 ++ 0x41 ∷ []))
         ∙ ap (λ (l : List ℕ). rows (98 of b ++ 0 ∷ l ++ 0 ∷ 7 of 0 ++ 400 of b) (512 of b)) below,
-    ap cursorAfter (on (md3 ++ cursorSet 105 0 0 0 ++ 0x41 ∷ [])),
+    ap cursorAfter (on f (md3 ++ cursorSet 105 0 0 0 ++ 0x41 ∷ [])),
   );
   case-11 = (
     ap (λ (a : Answer). refusalNumber (a .refusal)) (holding windowOne),
     λ b. ap answersTo (onHeld b windowOne (0x1B ∷ 0x40 ∷ []) refl),
-    λ b. mem (onHeld b windowOne (0x1B ∷ 0x40 ∷ []) refl),
-    λ b. mem (onHeld b windowOne (0x1B ∷ 0x40 ∷ 0x0C ∷ []) refl),
+    λ b. mem-of (onHeld b windowOne (0x1B ∷ 0x40 ∷ []) refl),
+    λ b. mem-of (onHeld b windowOne (0x1B ∷ 0x40 ∷ 0x0C ∷ []) refl),
   );
   case-12 = (
     ap (λ (a : Answer). refusalNumber (a .refusal)) (holding (windowOne ++ 0x1F ∷ 0x24 ∷ [])),
     λ b. ap answersTo (onHeld b (windowOne ++ 0x1F ∷ 0x24 ∷ []) (0x41 ∷ []) refl),
-    λ b. mem (onHeld b (windowOne ++ 0x1F ∷ 0x24 ∷ []) (0x41 ∷ []) refl)
+    λ b. mem-of (onHeld b (windowOne ++ 0x1F ∷ 0x24 ∷ []) (0x41 ∷ []) refl)
         ∙ ap (λ (l : List ℕ). rows (10 of b ++ 0 ∷ l ++ 0 ∷ 495 of b) (512 of b)) below,
     λ b. ap cursorAfter (onHeld b (windowOne ++ 0x1F ∷ 0x24 ∷ []) (0x41 ∷ []) refl),
   );
 } where
-  on : (piece : List ℕ) → fed font piece ≡ run panel font (fedNothing Accepted freshState (begun .mem)) piece
-  on piece = runs font freshState (begun .mem) piece (f .size) refl refl
-
-  onOver : (b : ℕ) (piece : List ℕ) → fedOver b font piece ≡ run panel font (fedNothing Accepted freshState (1024 of b)) piece
-  onOver b piece = runs font freshState (1024 of b) piece (f .size) refl refl
-
   -- the state after sixteen characters
   typed : (codes : List ℕ) → length codes ≡ 16 → Characters codes
       → run panel font (fedNothing Accepted freshState (begun .mem)) codes .answer .state
@@ -150,16 +139,13 @@ marked font f = record {
   heldAfter piece = holdCall panel (run panel font (fedNothing Accepted freshState (begun .mem)) piece .answer .state) 1
 
   holding : (piece : List ℕ) → held font piece ≡ heldAfter piece
-  holding piece = ap (λ (t : Feeding). holdCall panel (t .answer .state) 1) (on piece)
+  holding piece = ap (λ (t : Feeding). holdCall panel (t .answer .state) 1) (on f piece)
 
   onHeld : (b : ℕ) (before piece : List ℕ) → accepted panel (heldAfter before .state) ≡ true
       → fedHeld b font before piece ≡ run panel font (fedNothing Accepted (heldAfter before .state) (1024 of b)) piece
   onHeld b before piece a =
       ap (λ (h : Answer). feedCall panel font (h .state) (1024 of b) piece) (holding before)
       ∙ runs font (heldAfter before .state) (1024 of b) piece (f .size) refl a
-
-  mem : {t u : Feeding} → t ≡ u → t .mem ≡ u .mem
-  mem e = ap (λ (t : Feeding). t .mem) e
 
   below : columns dotsBelow font ≡ glyph font
   below = columns-same dotsBelow (λ v. v / 2 * 2) below-is font f

@@ -1,3 +1,5 @@
+mod Fed
 pub mod Typed
 pub mod Cases
 pub mod Rules
+pub mod LineFeed

@@ -132,8 +132,8 @@ pub record Marked (font : List ℕ) : Type 0 where
       × (fed font (image 0x00 0x00 ++ 0x0C ∷ []) .answer .answered ≡ 1)
   -- 7. Image x size 00h 02h is read on; 01h 02h cancels.
   pub case-7 : (answersTo (fed font (image 0x00 0x02)) ≡ 9) × (answersTo (fed font (image 0x01 0x02)) ≡ 12)
-  -- 8. MD1, cursor (14,1), LF: (14,0).
-  pub case-8 : cursorAfter (fed font (cursorSet 14 0 1 0 ++ 0x0A ∷ [])) ≡ cursor 14 0 1
+  -- 8. MD1, cursor (14,1), LF: by document 02, order 1, (0,0).
+  pub case-8 : cursorAfter (fed font (cursorSet 14 0 1 0 ++ 0x0A ∷ [])) ≡ cursor 0 0 1
   -- 9. MD2, cursor (0,1), 41h, LF: row 0 takes row 1, the glyph with its blank dot still above; row 1 zero, cursor (7,1).
   pub case-9 :
       ((b : ℕ) → fedOver b font (md2 ++ cursorSet 0 0 1 0 ++ 0x41 ∷ 0x0A ∷ []) .mem

@@ -20,7 +20,7 @@ pub fn small() -> Module
         finer: false,
         brightness: 8,
         tables: false,
-        keeps: true,
+        keeps: false,
         shortcuts: true,
         downloads: true,
         widths: true,

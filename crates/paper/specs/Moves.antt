@@ -91,7 +91,8 @@ backOf v c l =
     cond (leb c (v .x)) (to v (v .x - c) (v .y))
     (cond (not (eqb (v .mode) 3) && leb l (v .y)) (to v (v .width - c) (v .y - l)) v)
 
--- "LF: MD1: if y + 2L ≤ H, L rows down; else top row, same column" where the module keeps it
+-- "LF: MD1: if y + 2L ≤ H, L rows down; else" by document 02, order 1 "top row, left end", and the same column where the module
+-- keeps it
 unfoldable pub lineDown : Module → View → ℕ → View
 lineDown g v l = cond (roomBelow v l) (to v (v .x) (v .y + l)) (to v (cond (g .keeps) (v .x) 0) 0)
 

@@ -8,8 +8,8 @@ use lib.Dec.{ltb, eqb}
 use Rattle.paper.specs.declared.Module.{Module}
 
 -- The 112 by 16 module. "Display memory is 512 by 16 dots. Columns 0 to 111 are visible." "5 columns for each code", "upper 7 bits
--- used" and blanks by w and by the row. Brightness "58h n (1 to 8)", initially 8. "74h n (0 to 5, 16 to 19)". "LF: MD1: .. else top
--- row, same column". All codes that document 01 lists are known.
+-- used" and blanks by w and by the row. Brightness "58h n (1 to 8)", initially 8. "74h n (0 to 5, 16 to 19)". LF in MD1 without
+-- room below: "top row, left end" (document 02, order 1). All codes that document 01 lists are known.
 unfoldable pub panel : Module
 panel =
     record {
@@ -23,7 +23,7 @@ panel =
       finer = false;
       brightness = 8;
       tables = false;
-      keeps = true;
+      keeps = false;
       shortcuts = true;
       downloads = true;
       widths = true;
