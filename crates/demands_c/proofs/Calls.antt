@@ -21,10 +21,10 @@ use Rattle.demands.proofs.Rows.{here, later, length-wrong, length-right}
 use Rattle.demands.proofs.Demands.{demand-1-start, demand-1-feed, demand-1-hold, demand-1-release, demand-1-refresh}
 use Rattle.record_write.specs.Bytes.{recordLength, encoded}
 use Rattle.record_read.specs.Record.{stateOf}
-use Rattle.panel_c.specs.Face.{recordAfter, StartingC, startC, FeedingC, feedC, CallingC, holdC, releaseC, RefreshingC, refreshC}
-use Rattle.panel_c.proofs.Laws.{feed-stands}
+use Rattle.face.specs.Face.{recordAfter, StartingC, startC, FeedingC, feedC, CallingC, holdC, releaseC, RefreshingC, refreshC}
+use Rattle.face.proofs.Laws.{feed-stands}
 use Rattle.demands_c.specs.Demands.{StartAnswersC, NothingFedC, FeedAnswersC, HoldAnswersC, ReleaseAnswersC, RefreshAnswersC, PieceFedC}
-use Rattle.demands_c.proofs.Records.{record-length, no-state}
+use Rattle.demands_c.proofs.Records.{panel-rows, record-length, no-state}
 
 -- ---- a call's answer is 100 or document 01's
 
@@ -65,7 +65,7 @@ module _ (n : ℕ) (s : State) (l : List ℕ) where
 -- ---- start
 
 module _ (l m : List ℕ) where
-  start-number : startC l m .answer ≡ cond (isNot recordLength l) 100 (startNumber panel m)
+  start-number : startC panel l m .answer ≡ cond (isNot recordLength l) 100 (startNumber panel m)
   unfolding startC
   start-number = picked (λ (q : StartingC). q .answer) (isNot recordLength l) _ _
 
@@ -99,7 +99,7 @@ module _ (l m : List ℕ) where
 -- ---- feed
 
 module _ (l m font bytes : List ℕ) where
-  feed-number : feedC l m font bytes .answer .answer ≡ cond (isNot recordLength l) 100 (feedNumber panel font (stateOf l) m bytes)
+  feed-number : feedC panel l m font bytes .answer .answer ≡ cond (isNot recordLength l) 100 (feedNumber panel font (stateOf l) m bytes)
   unfolding feedC
   feed-number = picked (λ (q : FeedingC). q .answer .answer) (isNot recordLength l) _ _
 
@@ -134,7 +134,7 @@ module _ (l m font bytes : List ℕ) where
 -- ---- hold
 
 module _ (l : List ℕ) (k : ℕ) where
-  hold-number : holdC l k .answer ≡ cond (isNot recordLength l) 100 (holdNumber panel (stateOf l) k)
+  hold-number : holdC panel l k .answer ≡ cond (isNot recordLength l) 100 (holdNumber panel (stateOf l) k)
   unfolding holdC
   hold-number = picked (λ (q : CallingC). q .answer) (isNot recordLength l) _ _
 
@@ -163,7 +163,7 @@ module _ (l : List ℕ) (k : ℕ) where
 -- ---- release
 
 module _ (l : List ℕ) where
-  release-number : releaseC l .answer ≡ cond (isNot recordLength l) 100 (releaseNumber panel (stateOf l))
+  release-number : releaseC panel l .answer ≡ cond (isNot recordLength l) 100 (releaseNumber panel (stateOf l))
   unfolding releaseC
   release-number = picked (λ (q : CallingC). q .answer) (isNot recordLength l) _ _
 
@@ -190,7 +190,7 @@ module _ (l : List ℕ) where
 -- ---- refresh
 
 module _ (l m glass : List ℕ) where
-  refresh-number : refreshC l m glass .answer .answer ≡ cond (isNot recordLength l) 100 (refreshNumber panel (stateOf l) m glass)
+  refresh-number : refreshC panel l m glass .answer .answer ≡ cond (isNot recordLength l) 100 (refreshNumber panel (stateOf l) m glass)
   unfolding refreshC
   refresh-number = picked (λ (q : RefreshingC). q .answer .answer) (isNot recordLength l) _ _
 
@@ -227,12 +227,12 @@ module _ (l m glass : List ℕ) where
 -- ---- a feed that is not refused
 
 pub piece-fed-C : (l m font bytes : List ℕ) → length m ≡ memoryLength panel → length font ≡ fontLength panel → accepted panel (stateOf l) ≡ true
-    → PieceFedC (feedCall panel font (stateOf l) m bytes) (feedC l m font bytes)
+    → PieceFedC (feedCall panel font (stateOf l) m bytes) (feedC panel l m font bytes)
 unfolding feedC panel
 piece-fed-C l m font bytes memory fonts ok =
     let size = record-length l ok in
     let n = demand-1-feed font (stateOf l) m bytes .number-0 .1 (memory, (fonts, ok)) in
-    let stands = feed-stands l size m font bytes in
+    let stands = feed-stands panel panel-rows l size m font bytes in
     rw (eq-eqb (length l) recordLength size)
     (record {
       answer = n;

@@ -13,7 +13,7 @@ use Rattle.demands.specs.Events.{Event, refresh, joined, play}
 use Rattle.demands.specs.Demands.{InStep, someFont, someMemory, someGlass}
 use Rattle.record_write.specs.Bytes.{recordLength}
 use Rattle.record_read.specs.Record.{stateOf}
-use Rattle.panel_c.specs.Face.{feedC}
+use Rattle.face.specs.Face.{feedC}
 use Rattle.demands_c.specs.Plays.{playC, SamePlay}
 use Rattle.demands_c.specs.Demands.{StartAnswersC, FeedAnswersC, HoldAnswersC, ReleaseAnswersC, RefreshAnswersC, PieceFedC, ServedC, BegunInStepC, someRecord}
 use Rattle.demands_c.proofs.Calls.{start-answers-C, feed-answers-C, hold-answers-C, release-answers-C, refresh-answers-C, piece-fed-C}
@@ -40,7 +40,7 @@ demand-1-refresh-C = refresh-answers-C
 -- ==== DEMAND 2: what is fed from C is document 01's feed of the state that the record stands for
 
 pub demand-2-C : (l m font bytes : List ℕ) → length m ≡ memoryLength panel → length font ≡ fontLength panel → accepted panel (stateOf l) ≡ true
-    → PieceFedC (feedCall panel font (stateOf l) m bytes) (feedC l m font bytes)
+    → PieceFedC (feedCall panel font (stateOf l) m bytes) (feedC panel l m font bytes)
 demand-2-C = piece-fed-C
 
 -- ==== DEMAND 3: pieces cut anywhere and refreshes anywhere, in a window that is held
@@ -48,7 +48,7 @@ demand-2-C = piece-fed-C
 pub demand-3-C : (font : List ℕ) (k back : ℕ) (v : Settings) (l m glass : List ℕ)
     → InStep panel font k back v (stateOf l) m glass
     → (events : List Event)
-    → ServedC font k back v l m glass events (playC font l m glass events) (feedC l m font (joined events))
+    → ServedC font k back v l m glass events (playC font l m glass events) (feedC panel l m font (joined events))
     (playC font l m glass (events ++ refresh ∷ []))
 demand-3-C = served-C
 

@@ -22,11 +22,11 @@ use Rattle.demands.proofs.Demands.{demand-3}
 use Rattle.record_write.specs.Bytes.{recordLength}
 use Rattle.record_write.proofs.Laid.{encoded-length}
 use Rattle.record_read.specs.Record.{stateOf}
-use Rattle.panel_c.specs.Face.{recordAfter, FeedingC, feedingC, feedC, RefreshingC, refreshingC, refreshC}
-use Rattle.panel_c.proofs.Laws.{feed-stands, refresh-stands}
+use Rattle.face.specs.Face.{recordAfter, FeedingC, feedingC, feedC, RefreshingC, refreshingC, refreshC}
+use Rattle.face.proofs.Laws.{feed-stands, refresh-stands}
 use Rattle.demands_c.specs.Plays.{playC, SamePlay}
 use Rattle.demands_c.specs.Demands.{ServedC}
-use Rattle.demands_c.proofs.Records.{record-length}
+use Rattle.demands_c.proofs.Records.{panel-rows, record-length}
 
 -- ---- one call on a record of the right length
 
@@ -35,20 +35,20 @@ unfolding recordAfter
 record-size n s l h = by-cond (λ (r : List ℕ). length r ≡ recordLength) (eqb n 0) (λ _. encoded-length s) (λ _. h)
 
 module _ (l : List ℕ) (h : length l ≡ recordLength) where
-  pub feed-is : (m font bytes : List ℕ) → feedC l m font bytes ≡ feedingC l (feedCall panel font (stateOf l) m bytes)
+  pub feed-is : (m font bytes : List ℕ) → feedC panel l m font bytes ≡ feedingC l (feedCall panel font (stateOf l) m bytes)
   unfolding feedC
   feed-is m font bytes = rw (eq-eqb (length l) recordLength h)
 
-  pub feed-size : (m font bytes : List ℕ) → length (feedC l m font bytes .state) ≡ recordLength
+  pub feed-size : (m font bytes : List ℕ) → length (feedC panel l m font bytes .state) ≡ recordLength
   feed-size m font bytes =
       ap (λ (f : FeedingC). length (f .state)) (feed-is m font bytes)
       ∙ record-size _ (feedCall panel font (stateOf l) m bytes .answer .state) l h
 
-  pub refresh-is : (m glass : List ℕ) → refreshC l m glass ≡ refreshingC l (refreshCall panel (stateOf l) m glass)
+  pub refresh-is : (m glass : List ℕ) → refreshC panel l m glass ≡ refreshingC l (refreshCall panel (stateOf l) m glass)
   unfolding refreshC
   refresh-is m glass = rw (eq-eqb (length l) recordLength h)
 
-  pub refresh-size : (m glass : List ℕ) → length (refreshC l m glass .state) ≡ recordLength
+  pub refresh-size : (m glass : List ℕ) → length (refreshC panel l m glass .state) ≡ recordLength
   refresh-size m glass =
       ap (λ (r : RefreshingC). length (r .state)) (refresh-is m glass)
       ∙ record-size _ (refreshCall panel (stateOf l) m glass .answer .state) l h
@@ -71,11 +71,11 @@ module _ (font : List ℕ) where
         answers = refl;
       }
   same-play (piece bs ∷ es) l m glass h =
-      let f = feedC l m font bs in
+      let f = feedC panel l m font bs in
       let e = feed-is l h m font bs in
       let rest =
       subst₂ (λ (s : State) (n : List ℕ). SamePlay (play panel font s n glass es) (playC font (f .state) (f .mem) glass es))
-      (feed-stands l h m font bs) (ap (λ (q : FeedingC). q .mem) e)
+      (feed-stands panel panel-rows l h m font bs) (ap (λ (q : FeedingC). q .mem) e)
       (same-play es (f .state) (f .mem) glass (feed-size l h m font bs)) in
       record {
         size = rest .size;
@@ -88,11 +88,11 @@ module _ (font : List ℕ) where
         answers = ap₂ _∷_ (ap (λ (q : FeedingC). q .answer .answer) e) (rest .answers);
       }
   same-play (refresh ∷ es) l m glass h =
-      let r = refreshC l m glass in
+      let r = refreshC panel l m glass in
       let e = refresh-is l h m glass in
       let rest =
       subst₂ (λ (s : State) (n : List ℕ). SamePlay (play panel font s m n es) (playC font (r .state) m (r .glass) es))
-      (refresh-stands l h m glass) (ap (λ (q : RefreshingC). q .glass) e)
+      (refresh-stands panel panel-rows l h m glass) (ap (λ (q : RefreshingC). q .glass) e)
       (same-play es (r .state) m (r .glass) (refresh-size l h m glass)) in
       record {
         size = rest .size;
@@ -111,13 +111,13 @@ module _ (font : List ℕ) where
       playC font l m glass (a ++ b) ≡ followed p (playC font (p .state) (p .mem) (p .glass) b)
   passes-C [] b l m glass = rested l m glass (playC font l m glass b)
   passes-C (piece bs ∷ a) b l m glass =
-      let f = feedC l m font bs in
+      let f = feedC panel l m font bs in
       let p = playC font (f .state) (f .mem) glass a in
       ap (fedThen (f .answer .answer) (f .answer .carried) (f .answer .answered)) (passes-C a b (f .state) (f .mem) glass)
       ∙ fed-first (f .answer .answer) (f .answer .carried) (f .answer .answered) p
       (playC font (p .state) (p .mem) (p .glass) b)
   passes-C (refresh ∷ a) b l m glass =
-      let r = refreshC l m glass in
+      let r = refreshC panel l m glass in
       ap (refreshedThen (r .answer .answer) (r .answer .moved)) (passes-C a b (r .state) m (r .glass))
 
 -- ---- the demand
@@ -136,7 +136,7 @@ all-taken (suc n) = ap (λ (ns : List ℕ). 0 ∷ ns) (all-taken n)
 module _ (font : List ℕ) (k back : ℕ) (v : Settings) (l m glass : List ℕ) (i : InStep panel font k back v (stateOf l) m glass) where
   -- document 01's play is served, and this is it
   pub served-C : (events : List Event)
-      → ServedC font k back v l m glass events (playC font l m glass events) (feedC l m font (joined events))
+      → ServedC font k back v l m glass events (playC font l m glass events) (feedC panel l m font (joined events))
       (playC font l m glass (events ++ refresh ∷ []))
   unfolding panel
   served-C events =
@@ -153,7 +153,7 @@ module _ (font : List ℕ) (k back : ℕ) (v : Settings) (l m glass : List ℕ) 
             same .state
             ∙ served .state
             ∙ ap (λ (s : State). withSpans s (spansSince panel font (stateOf l) [] events))
-            (sym (feed-stands l size m font (joined events)));
+            (sym (feed-stands panel panel-rows l size m font (joined events)));
         outside = subst (OnlyInside panel k (stateOf l) m) (sym (same .mem)) (served .outside);
         guest = subst (Guest k back v (stateOf l)) (sym (same .state)) (served .guest);
         shows =

@@ -19,10 +19,11 @@ use Rattle.record_write.proofs.Laid.{encoded-length}
 use Rattle.record_parts.specs.Parts.{settingsAt}
 use Rattle.record_read.specs.Record.{stateOf}
 use Rattle.record_read.proofs.Back.{read-back}
-use Rattle.panel_c.proofs.Laws.{NoState}
+use Rattle.face.proofs.Laws.{NoState}
 use Rattle.demands_c.specs.Demands.{someRecord}
 
--- demand-2-C, with `fed-met` of crates/demands; demand-3-paper-C; panel_c/proofs/Laws start-stands to refresh-stands
+-- demand-2-C, with `fed-met` of crates/demands; demand-3-paper-C; face/proofs/Laws start-stands to refresh-stands, whose two rows are
+-- `panel-rows` of Records
 pub record-met : let l = encoded (startCall panel someMemory .answer .state) in
     (length l ≡ recordLength) × (accepted panel (stateOf l) ≡ true)
 record-met =
@@ -31,8 +32,8 @@ record-met =
       ap (accepted panel) (read-back s (start-sized panel someMemory)) ∙ start-keeps panel panel-usable someMemory,
     )
 
--- panel_c/proofs/Laws feed-8, hold-8, release-8, refresh-8: no setting is AAh
-pub no-state-met : (length someRecord ≡ recordLength) × NoState someRecord
+-- face/proofs/Laws feed-8, hold-8, release-8, refresh-8: no setting is AAh
+pub no-state-met : (length someRecord ≡ recordLength) × NoState panel someRecord
 unfolding encoded settingsOk inDomain
 no-state-met = (
   refl,

@@ -22,9 +22,14 @@ use Rattle.record_write.specs.Bytes.{recordLength, windowsBytes, tailBytes, enc
 use Rattle.record_write.proofs.Laid.{encoded-length}
 use Rattle.record_read.specs.Record.{stateOf}
 use Rattle.record_read.proofs.Back.{read-back, accepted-record, other-bytes}
-use Rattle.panel_c.proofs.Laws.{NoState}
+use Rattle.face.proofs.Laws.{NoState}
 
 -- ---- a record has four windows and two spans, and no more of a state is ever tested
+
+-- a span for each row
+pub panel-rows : panel .rows ≡ 2
+unfolding panel
+panel-rows = refl
 
 abbrev four : List Window → List Window
 four ws = windowAt ws 1 ∷ windowAt ws 2 ∷ windowAt ws 3 ∷ windowAt ws 4 ∷ []
@@ -95,7 +100,7 @@ pub record-length : (l : List ℕ) → accepted panel (stateOf l) ≡ true → l
 record-length l h = ap length (accepted-record panel l h) ∙ encoded-length (stateOf l)
 
 -- and is its record: number 8
-pub no-state : (l : List ℕ) → (accepted panel (stateOf l) ≡ false) ↔ NoState l
+pub no-state : (l : List ℕ) → (accepted panel (stateOf l) ≡ false) ↔ NoState panel l
 no-state l = (
   λ e s h r.
       true≢false

@@ -22,8 +22,8 @@ use Rattle.demands.specs.Events.{Event, refresh, spansSince, owed, visible}
 use Rattle.demands.specs.Demands.{oneOf, InStep, RefreshedAt}
 use Rattle.record_write.specs.Bytes.{recordLength, encoded}
 use Rattle.record_read.specs.Record.{stateOf}
-use Rattle.panel_c.specs.Face.{startC, FeedingC, feedC, holdC, releaseC, RefreshingC, refreshC}
-use Rattle.panel_c.proofs.Laws.{NoState}
+use Rattle.face.specs.Face.{startC, FeedingC, feedC, holdC, releaseC, RefreshingC, refreshC}
+use Rattle.face.proofs.Laws.{NoState}
 use Rattle.demands_c.specs.Plays.{PlayC, playC}
 
 -- ==== DEMAND 1. "Any bytes, buffers and state record may be handed in. Each call answers or refuses by document 01's numbers,
@@ -35,18 +35,18 @@ use Rattle.demands_c.specs.Plays.{PlayC, playC}
 -- ---- "Start: 1."
 
 pub record StartAnswersC (l m : List ℕ) : Type 0 where
-  pub listed : oneOf (100 ∷ 0 ∷ 1 ∷ []) (startC l m .answer) ≡ true
-  pub number-100 : (startC l m .answer ≡ 100) ↔ (length l ≢ recordLength)
+  pub listed : oneOf (100 ∷ 0 ∷ 1 ∷ []) (startC panel l m .answer) ≡ true
+  pub number-100 : (startC panel l m .answer ≡ 100) ↔ (length l ≢ recordLength)
   -- 1: "memory is not 1,024 bytes"
-  pub number-1 : (startC l m .answer ≡ 1) ↔ ((length l ≡ recordLength) × (length m ≢ memoryLength panel))
-  pub number-0 : (startC l m .answer ≡ 0) ↔ ((length l ≡ recordLength) × (length m ≡ memoryLength panel))
+  pub number-1 : (startC panel l m .answer ≡ 1) ↔ ((length l ≡ recordLength) × (length m ≢ memoryLength panel))
+  pub number-0 : (startC panel l m .answer ≡ 0) ↔ ((length l ≡ recordLength) × (length m ≡ memoryLength panel))
   -- a buffer of another length is left alone
-  pub wrong : startC l m .answer ≡ 100 → (startC l m .state ≡ l) × (startC l m .mem ≡ m)
+  pub wrong : startC panel l m .answer ≡ 100 → (startC panel l m .state ≡ l) × (startC panel l m .mem ≡ m)
   -- "Start takes no state; refused, it gives the initial state with both spans empty", and nothing lent changes
-  pub refused : startC l m .answer ≡ 1 → (startC l m .state ≡ encoded (initialState panel)) × (startC l m .mem ≡ m)
+  pub refused : startC panel l m .answer ≡ 1 → (startC panel l m .state ≡ encoded (initialState panel)) × (startC panel l m .mem ≡ m)
   -- "Start does the same [as initialise] and marks all as written."
-  pub taken : startC l m .answer ≡ 0
-      → (startC l m .state ≡ encoded (started panel)) × (startC l m .mem ≡ applyAll panel m (eraseStroke panel ∷ []))
+  pub taken : startC panel l m .answer ≡ 0
+      → (startC panel l m .state ≡ encoded (started panel)) × (startC panel l m .mem ≡ applyAll panel m (eraseStroke panel ∷ []))
 
 -- ---- "Feed: 1, 2, 8."
 
@@ -59,85 +59,85 @@ pub record NothingFedC (l m : List ℕ) (f : FeedingC) : Type 0 where
   pub outcome : f .answer .outcome ≡ 9
 
 pub record FeedAnswersC (l m font bytes : List ℕ) : Type 0 where
-  pub listed : oneOf (100 ∷ 0 ∷ 1 ∷ 2 ∷ 8 ∷ []) (feedC l m font bytes .answer .answer) ≡ true
-  pub number-100 : (feedC l m font bytes .answer .answer ≡ 100) ↔ (length l ≢ recordLength)
+  pub listed : oneOf (100 ∷ 0 ∷ 1 ∷ 2 ∷ 8 ∷ []) (feedC panel l m font bytes .answer .answer) ≡ true
+  pub number-100 : (feedC panel l m font bytes .answer .answer ≡ 100) ↔ (length l ≢ recordLength)
   -- 1: "memory is not 1,024 bytes"
-  pub number-1 : (feedC l m font bytes .answer .answer ≡ 1) ↔ ((length l ≡ recordLength) × (length m ≢ memoryLength panel))
+  pub number-1 : (feedC panel l m font bytes .answer .answer ≡ 1) ↔ ((length l ≡ recordLength) × (length m ≢ memoryLength panel))
   -- 2: "font is not 1,120 bytes"
-  pub number-2 : (feedC l m font bytes .answer .answer ≡ 2)
+  pub number-2 : (feedC panel l m font bytes .answer .answer ≡ 2)
       ↔ ((length l ≡ recordLength) × ((length m ≡ memoryLength panel) × (length font ≢ fontLength panel)))
   -- 8: "state record breaks a bound of this paper"
-  pub number-8 : (feedC l m font bytes .answer .answer ≡ 8)
-      ↔ ((length l ≡ recordLength) × ((length m ≡ memoryLength panel) × ((length font ≡ fontLength panel) × NoState l)))
-  pub number-0 : (feedC l m font bytes .answer .answer ≡ 0)
+  pub number-8 : (feedC panel l m font bytes .answer .answer ≡ 8)
+      ↔ ((length l ≡ recordLength) × ((length m ≡ memoryLength panel) × ((length font ≡ fontLength panel) × NoState panel l)))
+  pub number-0 : (feedC panel l m font bytes .answer .answer ≡ 0)
       ↔ ((length l ≡ recordLength) × ((length m ≡ memoryLength panel) × ((length font ≡ fontLength panel) × (accepted panel (stateOf l) ≡ true))))
-  pub refused : feedC l m font bytes .answer .answer ≢ 0 → NothingFedC l m (feedC l m font bytes)
+  pub refused : feedC panel l m font bytes .answer .answer ≢ 0 → NothingFedC l m (feedC panel l m font bytes)
 
 -- ---- "Hold: 8, 6, 4, 5."
 
 pub record HoldAnswersC (l : List ℕ) (k : ℕ) : Type 0 where
-  pub listed : oneOf (100 ∷ 0 ∷ 8 ∷ 6 ∷ 4 ∷ 5 ∷ []) (holdC l k .answer) ≡ true
-  pub number-100 : (holdC l k .answer ≡ 100) ↔ (length l ≢ recordLength)
+  pub listed : oneOf (100 ∷ 0 ∷ 8 ∷ 6 ∷ 4 ∷ 5 ∷ []) (holdC panel l k .answer) ≡ true
+  pub number-100 : (holdC panel l k .answer ≡ 100) ↔ (length l ≢ recordLength)
   -- 8: "state record breaks a bound of this paper"
-  pub number-8 : (holdC l k .answer ≡ 8) ↔ ((length l ≡ recordLength) × NoState l)
+  pub number-8 : (holdC panel l k .answer ≡ 8) ↔ ((length l ≡ recordLength) × NoState panel l)
   -- 6: "hold while held"
-  pub number-6 : (holdC l k .answer ≡ 6)
+  pub number-6 : (holdC panel l k .answer ≡ 6)
       ↔ ((length l ≡ recordLength) × ((accepted panel (stateOf l) ≡ true) × (isHeld (stateOf l .hold) ≡ true)))
   -- 4: "window to hold is not 1 to 4"
-  pub number-4 : (holdC l k .answer ≡ 4)
+  pub number-4 : (holdC panel l k .answer ≡ 4)
       ↔ ((length l ≡ recordLength) × ((accepted panel (stateOf l) ≡ true) × ((isHeld (stateOf l .hold) ≡ false)
       × (between 1 4 k ≡ false))))
   -- 5: "window to hold is not defined"
-  pub number-5 : (holdC l k .answer ≡ 5)
+  pub number-5 : (holdC panel l k .answer ≡ 5)
       ↔ ((length l ≡ recordLength) × ((accepted panel (stateOf l) ≡ true) × ((isHeld (stateOf l .hold) ≡ false)
       × ((between 1 4 k ≡ true) × (isDefined (windowAt (stateOf l .windows) k) ≡ false)))))
-  pub number-0 : (holdC l k .answer ≡ 0)
+  pub number-0 : (holdC panel l k .answer ≡ 0)
       ↔ ((length l ≡ recordLength) × ((accepted panel (stateOf l) ≡ true) × ((isHeld (stateOf l .hold) ≡ false)
       × ((between 1 4 k ≡ true) × (isDefined (windowAt (stateOf l .windows) k) ≡ true)))))
-  pub refused : holdC l k .answer ≢ 0 → holdC l k .state ≡ l
+  pub refused : holdC panel l k .answer ≢ 0 → holdC panel l k .state ≡ l
   -- "Hold k drops a half-read command, saves all settings and the selected window, and selects k."
-  pub taken : holdC l k .answer ≡ 0 → holdC l k .state ≡ encoded (heldBy (stateOf l) k)
+  pub taken : holdC panel l k .answer ≡ 0 → holdC panel l k .state ≡ encoded (heldBy (stateOf l) k)
 
 -- ---- "Release: 8, 7."
 
 pub record ReleaseAnswersC (l : List ℕ) : Type 0 where
-  pub listed : oneOf (100 ∷ 0 ∷ 8 ∷ 7 ∷ []) (releaseC l .answer) ≡ true
-  pub number-100 : (releaseC l .answer ≡ 100) ↔ (length l ≢ recordLength)
+  pub listed : oneOf (100 ∷ 0 ∷ 8 ∷ 7 ∷ []) (releaseC panel l .answer) ≡ true
+  pub number-100 : (releaseC panel l .answer ≡ 100) ↔ (length l ≢ recordLength)
   -- 8: "state record breaks a bound of this paper"
-  pub number-8 : (releaseC l .answer ≡ 8) ↔ ((length l ≡ recordLength) × NoState l)
+  pub number-8 : (releaseC panel l .answer ≡ 8) ↔ ((length l ≡ recordLength) × NoState panel l)
   -- 7: "release while not held"
-  pub number-7 : (releaseC l .answer ≡ 7)
+  pub number-7 : (releaseC panel l .answer ≡ 7)
       ↔ ((length l ≡ recordLength) × ((accepted panel (stateOf l) ≡ true) × (isHeld (stateOf l .hold) ≡ false)))
-  pub number-0 : (releaseC l .answer ≡ 0)
+  pub number-0 : (releaseC panel l .answer ≡ 0)
       ↔ ((length l ≡ recordLength) × ((accepted panel (stateOf l) ≡ true) × (isHeld (stateOf l .hold) ≡ true)))
-  pub refused : releaseC l .answer ≢ 0 → releaseC l .state ≡ l
+  pub refused : releaseC panel l .answer ≢ 0 → releaseC panel l .state ≡ l
   -- "Release drops a half-read command and puts the saved settings and selection back"
-  pub taken : releaseC l .answer ≡ 0 → releaseC l .state ≡ encoded (released (stateOf l))
+  pub taken : releaseC panel l .answer ≡ 0 → releaseC panel l .state ≡ encoded (released (stateOf l))
 
 -- ---- "Refresh: 1, 3, 8."
 
 pub record RefreshAnswersC (l m glass : List ℕ) : Type 0 where
-  pub listed : oneOf (100 ∷ 0 ∷ 1 ∷ 3 ∷ 8 ∷ []) (refreshC l m glass .answer .answer) ≡ true
-  pub number-100 : (refreshC l m glass .answer .answer ≡ 100) ↔ (length l ≢ recordLength)
+  pub listed : oneOf (100 ∷ 0 ∷ 1 ∷ 3 ∷ 8 ∷ []) (refreshC panel l m glass .answer .answer) ≡ true
+  pub number-100 : (refreshC panel l m glass .answer .answer ≡ 100) ↔ (length l ≢ recordLength)
   -- 1: "memory is not 1,024 bytes"
-  pub number-1 : (refreshC l m glass .answer .answer ≡ 1) ↔ ((length l ≡ recordLength) × (length m ≢ memoryLength panel))
+  pub number-1 : (refreshC panel l m glass .answer .answer ≡ 1) ↔ ((length l ≡ recordLength) × (length m ≢ memoryLength panel))
   -- 3: "glass is not 224 bytes"
-  pub number-3 : (refreshC l m glass .answer .answer ≡ 3)
+  pub number-3 : (refreshC panel l m glass .answer .answer ≡ 3)
       ↔ ((length l ≡ recordLength) × ((length m ≡ memoryLength panel) × (length glass ≢ glassLength panel)))
   -- 8: "state record breaks a bound of this paper"
-  pub number-8 : (refreshC l m glass .answer .answer ≡ 8)
-      ↔ ((length l ≡ recordLength) × ((length m ≡ memoryLength panel) × ((length glass ≡ glassLength panel) × NoState l)))
-  pub number-0 : (refreshC l m glass .answer .answer ≡ 0)
+  pub number-8 : (refreshC panel l m glass .answer .answer ≡ 8)
+      ↔ ((length l ≡ recordLength) × ((length m ≡ memoryLength panel) × ((length glass ≡ glassLength panel) × NoState panel l)))
+  pub number-0 : (refreshC panel l m glass .answer .answer ≡ 0)
       ↔ ((length l ≡ recordLength) × ((length m ≡ memoryLength panel) × ((length glass ≡ glassLength panel) × (accepted panel (stateOf l) ≡ true))))
   -- the record and the glass stay, and the count is 0
-  pub refused : refreshC l m glass .answer .answer ≢ 0
-      → (refreshC l m glass .state ≡ l) × (refreshC l m glass .answer .moved ≡ 0) × (refreshC l m glass .glass ≡ glass)
+  pub refused : refreshC panel l m glass .answer .answer ≢ 0
+      → (refreshC panel l m glass .state ≡ l) × (refreshC panel l m glass .answer .moved ≡ 0) × (refreshC panel l m glass .glass ≡ glass)
   -- "Refresh copies each span's visible columns, changes no other glass byte, empties both spans, and reports the number of
   -- bytes moved, which is the sum of the visible span lengths"
-  pub taken : refreshC l m glass .answer .answer ≡ 0
-      → (refreshC l m glass .state ≡ encoded (emptied panel (stateOf l)))
-      × (refreshC l m glass .answer .moved ≡ shownAll panel (stateOf l .spans))
-      × (refreshC l m glass .glass ≡ refreshed panel m (stateOf l .spans) glass)
+  pub taken : refreshC panel l m glass .answer .answer ≡ 0
+      → (refreshC panel l m glass .state ≡ encoded (emptied panel (stateOf l)))
+      × (refreshC panel l m glass .answer .moved ≡ shownAll panel (stateOf l .spans))
+      × (refreshC panel l m glass .glass ≡ refreshed panel m (stateOf l .spans) glass)
 
 -- ==== DEMAND 2. A feed that is not refused gives what document 01's feed gives, of which the demand speaks.
 
@@ -180,7 +180,7 @@ pub record ServedC (font : List ℕ) (k back : ℕ) (v : Settings) (l m glass : 
   -- "each refresh moved only the spans written since the one before", wherever it stands among the events
   pub each : (before after : List Event) → events ≡ before ++ refresh ∷ after
       → let b = playC font l m glass before in
-      let r = refreshC (b .state) (b .mem) (b .glass) in
+      let r = refreshC panel (b .state) (b .mem) (b .glass) in
       RefreshedAt panel (spansSince panel font (stateOf l) [] before) b (r .answer .answer) (r .answer .moved) (r .glass)
       (playC font (r .state) (b .mem) (r .glass) after) p
   -- as many bytes as these have, "224 at most"
@@ -190,11 +190,11 @@ pub record ServedC (font : List ℕ) (k back : ℕ) (v : Settings) (l m glass : 
 -- ---- one panel that is begun with: started, fed the define of marked case 11, its window held, and refreshed
 
 abbrev pub windowFedC : (font l m : List ℕ) → FeedingC
-windowFedC font l m = let a = startC l m in feedC (a .state) (a .mem) font windowOne
+windowFedC font l m = let a = startC panel l m in feedC panel (a .state) (a .mem) font windowOne
 
 abbrev pub windowHeldC : (font l m glass : List ℕ) → RefreshingC
 windowHeldC font l m glass =
-    let f = windowFedC font l m in refreshC (holdC (f .state) 1 .state) (f .mem) glass
+    let f = windowFedC font l m in refreshC panel (holdC panel (f .state) 1 .state) (f .mem) glass
 
 abbrev pub BegunInStepC : (font l m glass : List ℕ) → Type 0
 BegunInStepC font l m glass =

@@ -5,11 +5,12 @@ use Prim.Native.Nat.{ℕ}
 use lib.ListN.{length}
 use Rattle.paper.specs.declared.Refusal.{Refusal}
 use Rattle.paper.specs.declared.State.{State}
+use Rattle.paper.specs.Panel.{panel}
 use Rattle.paper.specs.Numbers.{refusalNumber}
 use Rattle.demands.specs.Events.{Event, piece, refresh, Play, resting, fedThen, refreshedThen}
 use Rattle.record_write.specs.Bytes.{recordLength}
 use Rattle.record_read.specs.Record.{stateOf}
-use Rattle.panel_c.specs.Face.{feedC, refreshC}
+use Rattle.face.specs.Face.{feedC, refreshC}
 
 -- the state is held as a record, and a call answers a number
 abbrev pub PlayC : Type 0
@@ -19,10 +20,10 @@ PlayC = Play (List ℕ) ℕ
 abbrev pub playC : List ℕ → List ℕ → List ℕ → List ℕ → List Event → PlayC
 playC font l m glass [] = resting l m glass
 playC font l m glass (piece bs ∷ es) =
-    let f = feedC l m font bs in
+    let f = feedC panel l m font bs in
     fedThen (f .answer .answer) (f .answer .carried) (f .answer .answered) (playC font (f .state) (f .mem) glass es)
 playC font l m glass (refresh ∷ es) =
-    let r = refreshC l m glass in
+    let r = refreshC panel l m glass in
     refreshedThen (r .answer .answer) (r .answer .moved) (playC font (r .state) m (r .glass) es)
 
 -- the play c from C comes to what the play p of document 01's calls comes to: the record stands for the state, and the rest is equal

@@ -1,29 +1,43 @@
--- `panel_feed` meets its contract: a record of another length, or the panel's feed on the state that it stands for. Assumes nothing.
+-- `panel_feed` meets its contract: a record of another length, or the feed for this module on the state that it stands for. Assumes nothing.
 use denote.Ref.{now}
 use borrow.Author.Needs.{needs}
-use Rattle.panel_c.proofs.Calls.{feed-length, feed-told}
+use mathlib.Core.Path.{refl, ap, _∙_}
+use Rattle.paper.specs.declared.Module.{Module}
+use Rattle.paper.specs.Panel.{panel}
+use Rattle.laws_state.proofs.Views.{panel-usable}
+use Rattle.face.specs.Face.{feedC}
+use Rattle.face.proofs.Calls.{feed-length, feed-told}
 use Rattle.panel_c.proofs.panel_feed.Statement.{statement}
 use Rattle.panel_c.proofs.panel_feed.Tie as tie
 
 returns : tie.Need-returns
 returns c =
     let start = c .before .before .before .before .before in
-    feed-length (now (start .args .state)) (c .if1 .taken) (now (start .args .mem)) (now (start .args .font)) (now (start .args .piece))
+    feed-length panel (now (start .args .state)) (c .if1 .taken) (now (start .args .mem)) (now (start .args .font)) (now (start .args .piece))
+
+feed-requires : tie.Need-feed-requires
+unfolding panel
+feed-requires c κs = rw (c .before .small .ensures) (panel-usable, refl)
 
 returns-2 : tie.Need-returns-2
 returns-2 c =
     let k = c .before .before .before in
     let n = k .before .before in
     let f = n .before .before .before .before in
-    let r = f .before .before in
+    let g = f .before .before in
+    let r = g .before in
     let i = r .before .before in
     let start = i .before .before .before .before .before in
-    feed-told (now (start .args .state)) (i .if1 .left) _ _ _ (r .state-of .ensures)
+    feed-told (g .small .result) (now (start .args .state)) (i .if1 .left) _ _ _ (r .state-of .ensures)
     (now (start .args .mem)) (now (start .args .font)) (now (start .args .piece)) _ _ _
     (f .feed .ensures)
     (n .refusal-number .ensures)
     (k .keep .ensures)
     (c .outcome-number .ensures)
+    ∙ ap
+    (λ (x : Module).
+    feedC x (now (start .args .state)) (now (start .args .mem)) (now (start .args .font)) (now (start .args .piece)))
+    (g .small .ensures)
 
 pub panel-feed-spec : {M : Type 1} → statement M
 panel-feed-spec =
@@ -31,7 +45,8 @@ panel-feed-spec =
     (tie.spec
     returns
     (λ c κs. search needs)
-    (λ c κs. tt)
+    (λ c κs. search needs)
+    feed-requires
     (λ c κs. tt)
     (λ c κs. search needs)
     (λ c κs. tt)

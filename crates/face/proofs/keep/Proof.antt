@@ -1,9 +1,9 @@
 -- `keep` meets its contract: it writes the record, or leaves it. Assumes nothing.
 use borrow.Author.Needs.{needs}
 use borrow.Author.Tests.{eq-eqb, ne-eqb}
-use Rattle.panel_c.specs.Face.{recordAfter}
-use Rattle.panel_c.proofs.keep.Statement.{statement}
-use Rattle.panel_c.proofs.keep.Tie as tie
+use Rattle.face.specs.Face.{recordAfter}
+use Rattle.face.proofs.keep.Statement.{statement}
+use Rattle.face.proofs.keep.Tie as tie
 
 pub keep-spec : {M : Type 1} → statement M
 unfolding recordAfter

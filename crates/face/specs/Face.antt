@@ -1,20 +1,20 @@
--- The five calls as C makes them: the state is a record of bytes, answers and outcomes are document 01's numbers. Each call is the
--- paper's own on the state that the record stands for, so its refusals and their order are the paper's. Assumes nothing.
+-- The five calls as C makes them, for any module: the state is a record of bytes, answers and outcomes are document 01's numbers. Each
+-- call is the paper's own on the state that the record stands for, so its refusals and their order are the paper's. Assumes nothing.
 use Prim.Native.Nat.{ℕ}
 use mathlib.Core.Bool.{cond}
 use mathlib.Core.List.{List}
 use lib.Dec.{eqb}
 use Rattle.paper.specs.declared.Answer.{Answer}
 use Rattle.paper.specs.declared.Fed.{Fed}
+use Rattle.paper.specs.declared.Module.{Module}
 use Rattle.paper.specs.declared.Span.{Span}
 use Rattle.paper.specs.declared.State.{State}
-use Rattle.paper.specs.Panel.{panel}
 use Rattle.paper.specs.Numbers.{refusalNumber, outcomeNumber}
 use Rattle.paper.specs.Calls.{isNot, Starting, startCall, Feeding, feedCall, holdCall, releaseCall, Refreshing, refreshCall}
 use Rattle.record_write.specs.Bytes.{recordLength, spansInto, encoded}
 use Rattle.record_read.specs.Record.{stateOf}
-use Rattle.panel_c.specs.declared.PanelFed.{PanelFed}
-use Rattle.panel_c.specs.declared.PanelRefreshed.{PanelRefreshed}
+use Rattle.face.specs.declared.PanelFed.{PanelFed}
+use Rattle.face.specs.declared.PanelRefreshed.{PanelRefreshed}
 
 -- a record of another length: no number of document 01. It is tested first
 abbrev pub wrongLength : ℕ
@@ -43,8 +43,8 @@ starting n l m = record { answer = n; state = l; mem = m }
 abbrev pub startingC : Starting → StartingC
 startingC c = starting (refusalNumber (c .answer .refusal)) (encoded (c .answer .state)) (c .mem)
 
-unfoldable pub startC : List ℕ → List ℕ → StartingC
-startC l m = cond (isNot recordLength l) (starting wrongLength l m) (startingC (startCall panel m))
+unfoldable pub startC : Module → List ℕ → List ℕ → StartingC
+startC g l m = cond (isNot recordLength l) (starting wrongLength l m) (startingC (startCall g m))
 
 -- ---- feed
 
@@ -68,9 +68,9 @@ feedingC l f =
     feeding (fedC (f .answer)) (recordAfter (refusalNumber (f .answer .refusal)) (f .answer .state) l) (f .mem)
 
 -- "9 .. when the call is refused"; "every count given back is 0"
-unfoldable pub feedC : List ℕ → List ℕ → List ℕ → List ℕ → FeedingC
-feedC l m font piece =
-    cond (isNot recordLength l) (feeding (fed wrongLength 9 0 0) l m) (feedingC l (feedCall panel font (stateOf l) m piece))
+unfoldable pub feedC : Module → List ℕ → List ℕ → List ℕ → List ℕ → FeedingC
+feedC g l m font piece =
+    cond (isNot recordLength l) (feeding (fed wrongLength 9 0 0) l m) (feedingC l (feedCall g font (stateOf l) m piece))
 
 -- ---- hold and release
 
@@ -85,11 +85,11 @@ calling n l = record { answer = n; state = l }
 abbrev pub callingC : List ℕ → Answer → CallingC
 callingC l a = calling (refusalNumber (a .refusal)) (recordAfter (refusalNumber (a .refusal)) (a .state) l)
 
-unfoldable pub holdC : List ℕ → ℕ → CallingC
-holdC l k = cond (isNot recordLength l) (calling wrongLength l) (callingC l (holdCall panel (stateOf l) k))
+unfoldable pub holdC : Module → List ℕ → ℕ → CallingC
+holdC g l k = cond (isNot recordLength l) (calling wrongLength l) (callingC l (holdCall g (stateOf l) k))
 
-unfoldable pub releaseC : List ℕ → CallingC
-releaseC l = cond (isNot recordLength l) (calling wrongLength l) (callingC l (releaseCall panel (stateOf l)))
+unfoldable pub releaseC : Module → List ℕ → CallingC
+releaseC g l = cond (isNot recordLength l) (calling wrongLength l) (callingC l (releaseCall g (stateOf l)))
 
 -- ---- refresh
 
@@ -111,7 +111,7 @@ refreshingC l r =
     (recordAfter (refusalNumber (r .answer .refusal)) (r .answer .state) l)
     (r .glass)
 
-unfoldable pub refreshC : List ℕ → List ℕ → List ℕ → RefreshingC
-refreshC l m glass =
+unfoldable pub refreshC : Module → List ℕ → List ℕ → List ℕ → RefreshingC
+refreshC g l m glass =
     cond (isNot recordLength l) (refreshing (moved wrongLength 0) l glass)
-    (refreshingC l (refreshCall panel (stateOf l) m glass))
+    (refreshingC l (refreshCall g (stateOf l) m glass))

@@ -1,9 +1,9 @@
 -- `keep_spans` meets its contract: it writes the spans into the record, or leaves it. Assumes nothing.
 use borrow.Author.Needs.{needs}
 use borrow.Author.Tests.{eq-eqb, ne-eqb}
-use Rattle.panel_c.specs.Face.{spansAfter}
-use Rattle.panel_c.proofs.keep_spans.Statement.{statement}
-use Rattle.panel_c.proofs.keep_spans.Tie as tie
+use Rattle.face.specs.Face.{spansAfter}
+use Rattle.face.proofs.keep_spans.Statement.{statement}
+use Rattle.face.proofs.keep_spans.Tie as tie
 
 pub keep-spans-spec : {M : Type 1} → statement M
 unfolding spansAfter

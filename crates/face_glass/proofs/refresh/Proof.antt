@@ -1,0 +1,38 @@
+-- `face_glass::refresh` meets its contract: a record of another length, or the refresh on the state that it stands for. Assumes nothing.
+use denote.Ref.{now}
+use borrow.Author.Needs.{needs}
+use Rattle.face.proofs.Calls.{refresh-length, refresh-told}
+use Rattle.face_glass.proofs.refresh.Statement.{statement}
+use Rattle.face_glass.proofs.refresh.Tie as tie
+
+returns : tie.Need-returns
+returns c =
+    let start = c .before .before .before .before in
+    refresh-length (start .args .g) (now (start .args .state)) (c .if1 .taken) (now (start .args .mem)) (now (start .args .glass))
+
+returns-2 : tie.Need-returns-2
+returns-2 c =
+    let k = c .before .before in
+    let n = k .before .before in
+    let a = n .before .before .before .before .before in
+    let r = a .before .before in
+    let i = r .before .before in
+    let start = i .before .before .before .before in
+    refresh-told (start .args .g) (now (start .args .state)) (i .if1 .left) _ _ _ (r .state-of .ensures)
+    (now (start .args .mem)) (now (start .args .glass)) _ _
+    (a .refresh .ensures)
+    (n .refusal-number .ensures)
+    (k .keep-spans .ensures)
+
+pub refresh-spec : {M : Type 1} → statement M
+refresh-spec =
+    tie.close
+    (tie.spec
+    returns
+    (λ c κs. search needs)
+    (λ c κs. c .before .before .before .before .before .before .before .pre)
+    (λ c κs. tt)
+    (λ c κs. search needs)
+    (λ c. search needs)
+    (λ c. search needs)
+    returns-2)

@@ -1,0 +1,36 @@
+-- `face_hold::release` meets its contract: a record of another length, or the release on the state that it stands for. Assumes nothing.
+use denote.Ref.{now}
+use borrow.Author.Needs.{needs}
+use Rattle.face.proofs.Calls.{release-length, release-told}
+use Rattle.face_hold.proofs.release.Statement.{statement}
+use Rattle.face_hold.proofs.release.Tie as tie
+
+returns : tie.Need-returns
+returns c =
+    let start = c .before .before in
+    release-length (start .args .g) (now (start .args .state)) (c .if1 .taken)
+
+returns-2 : tie.Need-returns-2
+returns-2 c =
+    let k = c .before .before in
+    let n = k .before .before in
+    let a = n .before .before in
+    let r = a .before in
+    let i = r .before .before in
+    let start = i .before .before in
+    release-told (start .args .g) (now (start .args .state)) (i .if1 .left) _ _ _ (r .state-of .ensures) _
+    (a .release .ensures)
+    (n .refusal-number .ensures)
+    (k .keep .ensures)
+
+pub release-spec : {M : Type 1} → statement M
+release-spec =
+    tie.close
+    (tie.spec
+    returns
+    (λ c κs. search needs)
+    (λ c κs. tt)
+    (λ c κs. tt)
+    (λ c κs. search needs)
+    (λ c. search needs)
+    returns-2)
