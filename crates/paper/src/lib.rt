@@ -1,4 +1,4 @@
-// The paper: the types of document 01 and, in specs/, every rule of it as a definition.
+// The paper: the types of document 01 and, in specs/, every rule of it, with the orders of document 02 in force, as a definition.
 // It holds no other code and uses no other crate; every other crate may use it.
 
 // A module: every figure and every rule in which panels differ. All else is asked of it.
