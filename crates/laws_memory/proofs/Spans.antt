@@ -15,15 +15,19 @@ use Rattle.paper.specs.Strokes.{Stroke, noSpan, spanOf, isNothing, among, grown
 use Rattle.paper.specs.Bounds.{spanOk, spansOk}
 use Rattle.laws_memory.proofs.Tests.{eq-cases, cond-cases, and-0, and-true, and-parts}
 
+-- two spans by their rows
+pub two-spans : (ps : List Span) → length ps ≡ 2 → getD ps 0 noSpan ∷ getD ps 1 noSpan ∷ [] ≡ ps
+two-spans [] e = absurd (omega arith)
+two-spans (p ∷ []) e = absurd (omega arith)
+two-spans (p ∷ q ∷ []) e = refl
+two-spans (p ∷ q ∷ r ∷ ps) e = absurd (omega arith)
+
 -- ---- growth by a rectangle
 
 -- two rows
 pub mark-two : (q : Rect) (ps : List Span) → length ps ≡ 2
     → let row : ℕ → Span = λ y. grownBy q y (getD ps y noSpan) in row 0 ∷ row 1 ∷ [] ≡ markRect q ps
-mark-two q [] e = absurd (omega arith)
-mark-two q (p ∷ []) e = absurd (omega arith)
-mark-two q (p ∷ p′ ∷ []) e = refl
-mark-two q (p ∷ p′ ∷ r ∷ ps) e = absurd (omega arith)
+mark-two q ps e = ap (markRect q) (two-spans ps e)
 
 pub mark-length : (q : Rect) (ps : List Span) → length (markRect q ps) ≡ length ps
 mark-length q ps = go 0 ps

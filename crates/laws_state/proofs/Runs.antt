@@ -35,17 +35,22 @@ use Rattle.laws_state.proofs.Sheets.{at-settings, at-half, at-spans, sh
 
 -- ---- ranges
 
+-- what is within a range is within any range that this is within
+pub within-on : {a b c : View} → Within a b → Within b c → Within a c
+within-on v w =
+    record {
+      left = w .left ∙ v .left;
+      top = w .top ∙ v .top;
+      width = w .width ∙ v .width;
+      height = w .height ∙ v .height;
+      x = omega (arith, w .x, v .width);
+      y = omega (arith, w .y, v .height);
+    }
+
 -- a move that keeps its range stays within any range that it was within
 pub within-kept : (u v : View) (t : Moved) → Within u v → Kept v t → Within u (t .view)
 within-kept u v t i k =
-    record {
-      left = k .left ∙ i .left;
-      top = k .top ∙ i .top;
-      width = k .width ∙ i .width;
-      height = k .height ∙ i .height;
-      x = omega (arith, k .x, i .width);
-      y = omega (arith, k .y, i .height);
-    }
+    within-on i (record { left = k .left; top = k .top; width = k .width; height = k .height; x = k .x; y = k .y })
 
 -- a cell that has room has it with the cursor elsewhere
 pub within-room : (g : Module) (u v : View) (c l : ℕ) → Room g u c l → Within u v → Room g v c l

@@ -20,6 +20,7 @@ use Rattle.paper.specs.Panel.{panel}
 use Rattle.paper.specs.Strokes.{noSpan}
 use Rattle.paper.specs.Settings.{windowAt, selectable}
 use Rattle.paper.specs.Bounds.{accepted}
+use Rattle.laws_memory.proofs.Spans.{two-spans}
 use Rattle.laws_state.specs.Sized.{Sized}
 use Rattle.laws_state.proofs.Tests.{by-cond}
 use Rattle.record_half.specs.declared.Slots.{Slots}
@@ -64,12 +65,6 @@ four (a ∷ b ∷ []) e = absurd (omega arith)
 four (a ∷ b ∷ c ∷ []) e = absurd (omega arith)
 four (a ∷ b ∷ c ∷ d ∷ []) e = refl
 four (a ∷ b ∷ c ∷ d ∷ f ∷ ws) e = absurd (omega arith)
-
-two : (ps : List Span) → length ps ≡ 2 → getD ps 0 noSpan ∷ getD ps 1 noSpan ∷ [] ≡ ps
-two [] e = absurd (omega arith)
-two (a ∷ []) e = absurd (omega arith)
-two (a ∷ b ∷ []) e = refl
-two (a ∷ b ∷ c ∷ ps) e = absurd (omega arith)
 
 slots-back : (t : Slots)
     → slots (t .case) (t .a) (t .b) (t .c) (word (t .p)) (word (t .q)) (word (t .r)) (word (t .s)) ≡ t
@@ -152,7 +147,7 @@ module _ (s : State) where
         upper-back (s .settings) (s .windows) (s .base) (s .selected) (s .half) (s .spans) (s .hold),
         lower-back (s .settings) (s .windows) (s .base) (s .selected) (s .half) (s .spans) (s .hold),
         four (s .windows) (z .windows),
-        two (s .spans) (z .spans),
+        two-spans (s .spans) (z .spans),
       )
 
 -- ---- the state that a record stands for

@@ -40,7 +40,7 @@ use Rattle.laws_state.specs.Runs as reached
 use Rattle.laws_state.specs.Runs.{Reaches, sheet, written, charactersOf, Within}
 use Rattle.laws_state.proofs.Moves.{ht-kept, back-kept, feed-kept, home-kept, return-kept, clear-kept}
 use Rattle.laws_state.proofs.Reached.{reaches-next, reaches-on, reaches-accepted, reaches-counts}
-use Rattle.laws_state.proofs.Runs.{within-kept}
+use Rattle.laws_state.proofs.Runs.{within-on, within-kept}
 use Rattle.laws_state.proofs.Sheets.{at-spans, sheet-twice, view-same}
 use Rattle.laws_state.proofs.Taken.{from-here}
 use Rattle.laws_state.proofs.Tests.{by-cond}
@@ -258,17 +258,6 @@ module _ {g : Module} {font piece : List ℕ} {f : Fed} {m : List ℕ} {from : �
     where
       F : Fed
       F = record { refusal = f .refusal; state = now-at; carried = c; answered = f .answered; outcome = o }
-
-      within-on : {a b d : View} → Within a b → Within b d → Within a d
-      within-on v w =
-          record {
-            left = w .left ∙ v .left;
-            top = w .top ∙ v .top;
-            width = w .width ∙ v .width;
-            height = w .height ∙ v .height;
-            x = omega (arith, w .x, v .width);
-            y = omega (arith, w .y, v .height);
-          }
 
       same : written (under (r .spot) m₂) (drop (r .at) piece)
           ≡ charactersOf g font (now-at .settings .width) (now-at .settings .style) (sheet (viewOf g now-at) (now-at .spans) m₁) (drop i piece)

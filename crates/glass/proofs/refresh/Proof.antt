@@ -4,13 +4,13 @@ use mathlib.Core.Path.{_≡_, sym, ap, ap₂, _∙_}
 use mathlib.Core.Bool.{true, _&&_}
 use mathlib.Core.List.{List, [], _∷_}
 use Prim.Native.Nat.{ℕ}
-use native.Mathlib.Omega.{arith}
 use lib.Dec.{eqb}
 use lib.ListN.{length, getD}
 use borrow.Author.Tests.{eqb-true}
 use Rattle.paper.specs.declared.Module.{Module}
 use Rattle.paper.specs.declared.Span.{Span}
 use Rattle.paper.specs.Strokes.{noSpan, spanOf, refreshed, shownAll}
+use Rattle.laws_memory.proofs.Spans.{two-spans}
 use Rattle.laws_memory.proofs.Tests.{and-parts}
 use Rattle.glass.proofs.refresh.Statement.{statement}
 use Rattle.glass.proofs.refresh.Tie as tie
@@ -30,10 +30,8 @@ alike g p q h =
 
 same-spans : (g : Module) (ps : List Span) → length ps ≡ 2 → Alike g (getD ps 0 noSpan) (getD ps 1 noSpan)
     → getD ps 0 noSpan ∷ getD ps 0 noSpan ∷ [] ≡ ps
-same-spans g [] h a = absurd (omega arith)
-same-spans g (p ∷ []) h a = absurd (omega arith)
-same-spans g (p ∷ q ∷ []) h a = ap (λ (s : Span). p ∷ s ∷ []) (ap₂ spanOf (a .first) (a .end))
-same-spans g (p ∷ q ∷ r ∷ ps) h a = absurd (omega arith)
+same-spans g ps h a =
+    ap (λ (s : Span). getD ps 0 noSpan ∷ s ∷ []) (ap₂ spanOf (a .first) (a .end)) ∙ two-spans ps h
 
 copy-both-requires : tie.Need-copy-both-requires
 copy-both-requires c κs =
