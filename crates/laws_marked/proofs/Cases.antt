@@ -5,8 +5,7 @@ use mathlib.Core.List.{List, [], _∷_, _++_}
 use Prim.Native.Nat.{ℕ, zero, suc, _*_, _-_, _/_, _<_}
 use native.Mathlib.Omega.{arith}
 use lib.ListN.{length, getD}
-use lib.Dec.{leb, ltb, eqb}
-use Rattle.paper.specs.declared.State.{State}
+use lib.Dec.{leb, ltb}
 use Rattle.paper.specs.declared.Answer.{Answer}
 use Rattle.paper.specs.declared.Refusal.the-variants.{Accepted}
 use Rattle.paper.specs.Panel.{panel, byteOf, glyphDot, dot}
@@ -18,11 +17,11 @@ use Rattle.paper.specs.Bounds.{settingsOk, cursorOk, isBlank, windowOk, windows
 use Rattle.paper.specs.Cells.{cellDot, penned, cellWidth, tooLarge}
 use Rattle.paper.specs.Moves.{nextLine, nextLineUp, pushLeft, htOf, drawTab, blankTab, characterOf, lineDown, lineDownUp, lineFeedOf, clearOf}
 use Rattle.paper.specs.Carry.{asks, isHeld, carriedOut, commandOf, takeOf, byteMeans}
-use Rattle.paper.specs.Calls.{isAccepted, startRefusal, startCall, feedRefusal, Feeding, next, run, fedNothing, feedCall, holdRefusal, heldBy, holdCall, refreshRefusal, emptied, refreshCall}
+use Rattle.paper.specs.Calls.{isAccepted, startRefusal, startCall, Feeding, next, run, fedNothing, feedCall, holdRefusal, heldBy, holdCall, refreshRefusal, emptied, refreshCall}
 use Rattle.laws_bytes.proofs.Dots.{byte-rule}
 use Rattle.laws_marked.proofs.Fed.{runs, on, onOver, mem-of}
 use Rattle.laws_marked.proofs.Typed.{runs-alike}
-use Rattle.laws_marked.specs.Marked.{Font, begun, fresh, freshState, fed, fedOver, answersTo, cursorAfter, nextRefresh, rows, _of_, column, glyph, glyphLow, Characters, cursorSet, md2, md3, windowOne, image, held, fedHeld, Marked}
+use Rattle.laws_marked.specs.Marked.{Font, begun, fresh, freshState, answersTo, cursorAfter, nextRefresh, rows, _of_, column, glyph, glyphLow, Characters, cursorSet, md2, md3, windowOne, image, held, fedHeld, Marked}
 
 -- ---- the dots of the glyph of 41h as bytes
 

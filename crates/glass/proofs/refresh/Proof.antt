@@ -1,15 +1,14 @@
 -- `glass::refresh` meets its contract. Assumes nothing.
 use borrow.Author.Needs.{needs}
-use mathlib.Core.Path.{_≡_, sym, ap, ap₂, _∙_}
+use mathlib.Core.Path.{_≡_, ap, ap₂, _∙_}
 use mathlib.Core.Bool.{true, _&&_}
 use mathlib.Core.List.{List, [], _∷_}
-use Prim.Native.Nat.{ℕ}
 use lib.Dec.{eqb}
 use lib.ListN.{length, getD}
 use borrow.Author.Tests.{eqb-true}
 use Rattle.paper.specs.declared.Module.{Module}
 use Rattle.paper.specs.declared.Span.{Span}
-use Rattle.paper.specs.Strokes.{noSpan, spanOf, refreshed, shownAll}
+use Rattle.paper.specs.Strokes.{noSpan, spanOf, shownAll}
 use Rattle.laws_memory.proofs.Spans.{two-spans}
 use Rattle.laws_memory.proofs.Tests.{and-parts}
 use Rattle.glass.proofs.refresh.Statement.{statement}
