@@ -8,8 +8,8 @@
  * Link: `rt staticlib panel_c` writes target/staticlib/libpanel_c.a (x86-64), and
  * `cc yours.c target/staticlib/libpanel_c.a` needs no other library. examples/
  * has a receiver. The numbers are document 01's; docs/RECORD.md has the record,
- * docs/MANUAL.md the commands. They are document 01's with document 02's order 1:
- * LF in MD1 without room below goes to the range's top left, as 001, 5-1-4 says.
+ * docs/MANUAL.md the commands. They are document 01's with document 02's orders 1
+ * (LF in MD1 without room below goes to the range's top left) and 2 (downloads).
  *
  * Stack, on x86-64: a feed needs some 3,000 bytes, every other call below 1,000
  * (docs/MEASURED.md).
@@ -25,7 +25,7 @@ extern "C" {
 #endif
 
 /* Lengths, in bytes, of what is lent. */
-#define PANEL_STATE 103   /* the state record */
+#define PANEL_STATE 259   /* the state record */
 #define PANEL_MEMORY 1024 /* display memory: column x, row y at 2x + y, bit 7 on top */
 #define PANEL_FONT 1120   /* the font: 5 columns for each code 20h to FFh */
 #define PANEL_GLASS 224   /* the glass: the visible columns, addressed as the memory */
@@ -53,13 +53,15 @@ extern "C" {
 #define PANEL_WINDOW_HELD 15   /* refused because a window is held */
 #define PANEL_TOO_LARGE 16     /* the character cell exceeds the range */
 #define PANEL_NOT_DEFINED 17   /* select of an undefined window */
+#define PANEL_DROPPED 18       /* a define of downloads, read to its end: 16 were stored, and a code was dropped */
+#define PANEL_NOT_STORED 19    /* erase of a code that is not stored */
 
 /* What a feed answers. */
 typedef struct PanelFed {
     uint32_t answer;  /* PANEL_OK, 1, 2, 8 or 100 */
-    uint32_t outcome; /* 9 to 17, of the last byte */
+    uint32_t outcome; /* 9 to 19, of the last byte */
     size_t carried;   /* commands carried out */
-    size_t answered;  /* commands answered 11 to 17 */
+    size_t answered;  /* commands answered 11 to 19 */
 } PanelFed;
 
 /* What a refresh answers. */

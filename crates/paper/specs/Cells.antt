@@ -2,13 +2,14 @@
 use Prim.Native.Nat.{ℕ, _+_, _*_, _-_, _/_, min}
 use mathlib.Core.Bool.{Bool, false, cond, not, _&&_, _||_, xor}
 use mathlib.Core.List.{List}
-use lib.ListN.{getD}
+use lib.ListN.{length, getD}
 use lib.Dec.{leb, ltb, eqb}
 use Rattle.paper.specs.declared.Module.{Module}
 use Rattle.paper.specs.declared.Rect.{Rect}
 use Rattle.paper.specs.declared.Style.{Style}
 use Rattle.paper.specs.declared.View.{View}
-use Rattle.paper.specs.Panel.{address, dot, byteOf, glyphDot}
+use Rattle.paper.specs.Panel.{address, dot, byteOf, isFramed, glyphDot}
+use Rattle.paper.specs.Downloads.{Faces, glyphOf}
 use Rattle.paper.specs.Strokes.{Rule, draw, wrapBlank, scroll, clear, image, initialise, rectAt, Stroke, among}
 
 -- ---- dots
@@ -18,19 +19,21 @@ abbrev pub Dots : Type 0
 Dots = ℕ → ℕ → Bool
 
 -- "w = 0 puts one blank column right; w = 1 one on each side": w of 0 or 1 is also the number of blank columns on the left
-abbrev pub blanksLeft : Module → ℕ → ℕ
-blanksLeft g w = cond (g .framed) w 0
+abbrev pub blanksLeft : Bool → ℕ → ℕ
+blanksLeft framed w = cond framed w 0
 
-abbrev pub withBlanks : Module → ℕ → Dots → Dots
-withBlanks g w d k i = among (blanksLeft g w) (g .glyph) k && d (k - blanksLeft g w) i
+-- n columns with their blanks
+abbrev pub withBlanks : Bool → ℕ → ℕ → Dots → Dots
+withBlanks framed n w d k i = among (blanksLeft framed w) n k && d (k - blanksLeft framed w) i
 
 -- "If the cursor's row in memory is 0, the glyph has its 7 dots on top and a blank dot below; on row 1 the blank is above"
-abbrev pub placed : Module → ℕ → Dots → Dots
-placed g row d k i = cond (g .framed && not (eqb row 0)) (leb 1 i && d k (i - 1)) (d k i)
+abbrev pub placed : Bool → ℕ → Dots → Dots
+placed framed row d k i = cond (framed && not (eqb row 0)) (leb 1 i && d k (i - 1)) (d k i)
 
--- the cell of a code before enlargement, its columns of 8 dots, the cursor on a row of memory
-unfoldable pub cellDot : Module → List ℕ → ℕ → ℕ → ℕ → Dots
-cellDot g font code w row = withBlanks g w (placed g row (glyphDot g font code))
+-- the cell of a glyph before enlargement, its columns of 8 dots, the cursor on a row of memory. One that is not framed fills it "without
+-- blanks", "the left 6 only when w = 0"
+unfoldable pub cellDot : Bool → List ℕ → ℕ → ℕ → Dots
+cellDot framed cols w row = withBlanks framed (length cols) w (placed framed row (glyphDot framed cols))
 
 -- "draw an all-off cell"
 abbrev pub allOff : Dots
@@ -98,9 +101,13 @@ cellStroke rule y c d v =
       byte = λ m j r b. penned y (λ i. enlargedDots y d j (8 * r + i)) b;
     }
 
--- the cell of a code; the blank dot is "by the cursor's row in memory"
-abbrev pub drawStroke : Module → List ℕ → ℕ → Style → ℕ → View → Stroke
-drawStroke g font w y code v = cellStroke draw y (cellWidth g w y) (cellDot g font code w (v .top + v .y)) v
+-- the cell of a glyph's columns; the blank dot is "by the cursor's row in memory"
+abbrev pub glyphStroke : Module → List ℕ → ℕ → Style → View → Stroke
+glyphStroke g cols w y v = cellStroke draw y (cellWidth g w y) (cellDot (isFramed g cols) cols w (v .top + v .y)) v
+
+-- the cell of a code
+abbrev pub drawStroke : Module → Faces → ℕ → Style → ℕ → View → Stroke
+drawStroke g f w y code v = glyphStroke g (glyphOf g f code) w y v
 
 -- the all-off cell of a wrap, "reversed and mixed as any"
 abbrev pub blankStroke : Module → ℕ → Style → View → Stroke

@@ -1,4 +1,5 @@
 pub mod Panel
+pub mod Downloads
 pub mod Strokes
 pub mod Numbers
 pub mod Reading

@@ -7,6 +7,7 @@ use lib.Dec.{leb, eqb}
 use Rattle.paper.specs.declared.Module.{Module}
 use Rattle.paper.specs.declared.Style.{Style}
 use Rattle.paper.specs.declared.View.{View}
+use Rattle.paper.specs.Downloads.{Faces}
 use Rattle.paper.specs.Strokes.{Stroke}
 use Rattle.paper.specs.Cells.{cellWidth, cellHeight, drawStroke, blankStroke, upStroke, leftStroke, clearStroke}
 
@@ -68,20 +69,20 @@ htOf g v c l =
 -- ---- a character
 
 -- "draw, HT"
-unfoldable pub drawTab : Module → List ℕ → ℕ → Style → ℕ → View → Moved
-drawTab g font w y code v =
-    andThen (writing (drawStroke g font w y code v) v) (λ q. htOf g q (cellWidth g w y) (cellHeight y))
+unfoldable pub drawTab : Module → Faces → ℕ → Style → ℕ → View → Moved
+drawTab g f w y code v =
+    andThen (writing (drawStroke g f w y code v) v) (λ q. htOf g q (cellWidth g w y) (cellHeight y))
 
 -- "draw an all-off cell, HT"
 unfoldable pub blankTab : Module → ℕ → Style → View → Moved
 blankTab g w y v = andThen (writing (blankStroke g w y v) v) (λ q. htOf g q (cellWidth g w y) (cellHeight y))
 
 -- "Character: if x + c ≤ W draw, HT. Else MD1 and MD2: draw an all-off cell, HT, draw, HT. MD3: HT, draw, HT."
-unfoldable pub characterOf : Module → List ℕ → ℕ → Style → ℕ → View → Moved
-characterOf g font w y code v =
-    cond (leb (v .x + cellWidth g w y) (v .width)) (drawTab g font w y code v)
-    (cond (eqb (v .mode) 3) (andThen (htOf g v (cellWidth g w y) (cellHeight y)) (drawTab g font w y code))
-    (andThen (blankTab g w y v) (drawTab g font w y code)))
+unfoldable pub characterOf : Module → Faces → ℕ → Style → ℕ → View → Moved
+characterOf g f w y code v =
+    cond (leb (v .x + cellWidth g w y) (v .width)) (drawTab g f w y code v)
+    (cond (eqb (v .mode) 3) (andThen (htOf g v (cellWidth g w y) (cellHeight y)) (drawTab g f w y code))
+    (andThen (blankTab g w y v) (drawTab g f w y code)))
 
 -- ---- the other moves
 

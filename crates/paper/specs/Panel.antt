@@ -3,7 +3,7 @@
 use Prim.Native.Nat.{ℕ, suc, _+_, _*_, _-_, _/_, _%_, _^_}
 use mathlib.Core.Bool.{Bool, true, false, not, _&&_, _||_}
 use mathlib.Core.List.{List, [], _∷_}
-use lib.ListN.{getD}
+use lib.ListN.{length, getD, take, drop}
 use lib.Dec.{ltb, eqb}
 use Rattle.paper.specs.declared.Module.{Module}
 
@@ -64,13 +64,18 @@ unfoldable pub byteOf : (ℕ → Bool) → ℕ
 byteOf d =
     lit 128 (d 0) + lit 64 (d 1) + lit 32 (d 2) + lit 16 (d 3) + lit 8 (d 4) + lit 4 (d 5) + lit 2 (d 6) + lit 1 (d 7)
 
--- "5 columns for each code 20h to FFh, leftmost first"
-abbrev pub glyphByte : Module → List ℕ → ℕ → ℕ → ℕ
-glyphByte g font code k = getD font (g .glyph * (code - 0x20) + k) 0
+-- "5 columns for each code 20h to FFh, leftmost first": a code's columns
+abbrev pub fontGlyph : Module → List ℕ → ℕ → List ℕ
+fontGlyph g font code = take (g .glyph) (drop (g .glyph * (code - 0x20)) font)
 
--- "upper 7 bits used" where the glyph is framed, else all: dot i of column k of a code's glyph
-unfoldable pub glyphDot : Module → List ℕ → ℕ → ℕ → ℕ → Bool
-glyphDot g font code k i = (not (g .framed) || ltb i 7) && dot (glyphByte g font code k) i
+-- whether a glyph, given by its columns, is framed by blanks: on a module that frames its font's glyphs, one with as many columns as
+-- they have ("5 columns draw like a font glyph", document 02, order 2)
+abbrev pub isFramed : Module → List ℕ → Bool
+isFramed g cols = g .framed && eqb (length cols) (g .glyph)
+
+-- "upper 7 bits used" where the glyph is framed, else "all 8 dots tall": dot i of column k
+unfoldable pub glyphDot : Bool → List ℕ → ℕ → ℕ → Bool
+glyphDot framed cols k i = (not framed || ltb i 7) && dot (getD cols k 0) i
 
 -- each byte of a memory or a glass changed by its address, counted from i
 abbrev pub eachFrom : (ℕ → ℕ → ℕ) → ℕ → List ℕ → List ℕ

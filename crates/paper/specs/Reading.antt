@@ -1,18 +1,20 @@
 -- Document 01, "How bytes are read": what a byte gives to a half-read command. Nothing of state or memory is in it.
 -- Assumes nothing.
 use Prim.Native.Nat.{ℕ, _+_, _*_, _-_}
-use mathlib.Core.Bool.{Bool, true, cond, _&&_, _||_}
+use mathlib.Core.Bool.{Bool, true, false, cond, _&&_, _||_}
 use lib.Dec.{leb, ltb, eqb}
 use Rattle.paper.specs.declared.Module.{Module}
 use Rattle.paper.specs.declared.Key.{Key}
-use Rattle.paper.specs.declared.Key.the-variants.{Charset, Codes, Caret, Brightness, Reverse, Speed, Mixing, Width, Write}
+use Rattle.paper.specs.declared.Key.the-variants.{Charset, Codes, Caret, Brightness, Reverse, Speed, Mixing, Width, Write, Switch}
 use Rattle.paper.specs.declared.Word.{Word}
 use Rattle.paper.specs.declared.Word.the-variants.{CursorX, CursorY, WindowLeft, WindowTop, WindowWidth, WindowHeight, ImageWidth, ImageHeight}
+use Rattle.paper.specs.declared.Batch.{Batch}
+use Rattle.paper.specs.declared.Columns.{Columns}
 use Rattle.paper.specs.declared.Half.{Half}
-use Rattle.paper.specs.declared.Half.the-variants.{Nothing, Escape, Unit, Group, Actions, Images, Characters, Windows, Value, Rest, DownloadA, DownloadFrom, DownloadTo, GlyphWidth, GlyphByte, Low, High, ImageKind, ImageData, EnlargeX, EnlargeY, SelectA, WindowA, WindowB}
-use Rattle.paper.specs.declared.Command.the-variants.{Character, Back, Tab, LineFeed, Home, Clear, Return, Select, Initialise, Mode, Set, Enlarge, CursorSet, Define, Cancel, Uncarried}
+use Rattle.paper.specs.declared.Half.the-variants.{Nothing, Escape, Unit, Group, Actions, Images, Characters, Windows, Value, Rest, DownloadA, DownloadFrom, DownloadTo, GlyphWidth, GlyphByte, Low, High, ImageKind, ImageData, EnlargeX, EnlargeY, SelectA, WindowA, WindowB, EraseA, EraseCode}
+use Rattle.paper.specs.declared.Command.the-variants.{Character, Back, Tab, LineFeed, Home, Clear, Return, Select, Initialise, Mode, Set, Enlarge, CursorSet, Define, Cancel, Uncarried, Erase}
 use Rattle.paper.specs.declared.Reading.{Reading}
-use Rattle.paper.specs.declared.Reading.the-variants.{More, Whole, ImageByte, ImageEnd, Cancels, UnknownCode}
+use Rattle.paper.specs.declared.Reading.the-variants.{More, Whole, ImageByte, ImageEnd, GlyphEnd, Cancels, UnknownCode}
 
 -- lo ≤ n ≤ hi
 abbrev pub between : ℕ → ℕ → ℕ → Bool
@@ -45,14 +47,14 @@ readFirst g b =
     (cond (eqb b 0x1B) (More Escape)
     (cond (eqb b 0x1F) (More Unit) UnknownCode))))
 
--- "1Bh: 40h initialise; 52h n and 74h n; 25h n, 3Fh a c: answered 14; 26h a c1 c2 .."
+-- "1Bh: 40h initialise; 52h n and 74h n; 25h n, 3Fh a c; 26h a c1 c2 .."
 unfoldable pub readEscape : Module → ℕ → Reading
 readEscape g b =
     cond (eqb b 0x40) (Whole Initialise)
     (cond (eqb b 0x52) (More (Value Charset))
     (cond (eqb b 0x74) (More (Value Codes))
-    (cond (eqb b 0x25) (onlyIf (g .downloads) (More (Rest 1)))
-    (cond (eqb b 0x3F) (onlyIf (g .downloads) (More (Rest 2)))
+    (cond (eqb b 0x25) (onlyIf (g .downloads) (More (Value Switch)))
+    (cond (eqb b 0x3F) (onlyIf (g .downloads) (More EraseA))
     (cond (eqb b 0x26) (onlyIf (g .downloads) (More DownloadA)) UnknownCode)))))
 
 -- "1Fh: 01h, 02h, 03h set MD1, MD2, MD3; 24h x16 y16; 43h n; 58h n; 72h n; 73h n; 77h n", and 28h, which opens the groups below
@@ -103,6 +105,7 @@ isKnown g Speed = true
 isKnown g Mixing = true
 isKnown g Width = g .widths
 isKnown g Write = true
+isKnown g Switch = g .downloads
 
 -- "1Fh 28h 77h: 01h a select; 02h a b ..; 10h a write mode"
 unfoldable pub readWindows : ℕ → Reading
@@ -114,13 +117,38 @@ readWindows b =
 unfoldable pub readRest : ℕ → Reading
 readRest left = cond (leb left 1) (Whole Uncarried) (More (Rest (left - 1)))
 
--- "26h a c1 c2 then, for each code c1 to c2, a width x and x bytes: answered 14, cancelled at a other than 1, c1 below 20h, c2
--- below c1, x other than 5 or 7"
-unfoldable pub readGlyphByte : ℕ → ℕ → ℕ → Reading
-readGlyphByte code last left =
-    cond (leb left 1)
-    (cond (leb last code) (Whole Uncarried) (More (GlyphWidth (code + 1) last)))
-    (More (GlyphByte code last (left - 1)))
+-- ---- a define of downloads: "26h a c1 c2 then, for each code c1 to c2, a width x and x bytes: cancelled at a other than 1, c1 below
+-- 20h, c2 below c1, x other than 5 or 7"
+
+abbrev pub batch : ℕ → ℕ → ℕ → Bool → Batch
+batch first code last dropped = record { first = first; code = code; last = last; dropped = dropped }
+
+-- the next code of a define, with its note of a drop
+abbrev pub nextCode : Batch → Bool → Batch
+nextCode d dropped = batch (d .first) (d .code + 1) (d .last) dropped
+
+-- x columns, of which none has come
+abbrev pub noColumns : ℕ → Columns
+noColumns x = record { width = x; come = 0; c0 = 0; c1 = 0; c2 = 0; c3 = 0; c4 = 0; c5 = 0; c6 = 0 }
+
+-- one column more
+unfoldable pub withColumn : Columns → ℕ → Columns
+withColumn c b =
+    record {
+      width = c .width;
+      come = c .come + 1;
+      c0 = cond (eqb (c .come) 0) b (c .c0);
+      c1 = cond (eqb (c .come) 1) b (c .c1);
+      c2 = cond (eqb (c .come) 2) b (c .c2);
+      c3 = cond (eqb (c .come) 3) b (c .c3);
+      c4 = cond (eqb (c .come) 4) b (c .c4);
+      c5 = cond (eqb (c .come) 5) b (c .c5);
+      c6 = cond (eqb (c .come) 6) b (c .c6);
+    }
+
+-- the columns come whole with the last of them
+unfoldable pub readColumn : Batch → Columns → Reading
+readColumn d c = cond (ltb (c .come) (c .width)) (More (GlyphByte d c)) (GlyphEnd d c)
 
 -- "In 02h, a outside 1 to 4 or b outside 0 to 1 cancels at that byte. When b is 1 all is read"
 unfoldable pub readWindowB : ℕ → ℕ → Reading
@@ -162,9 +190,9 @@ readOf g (Value key) b = Whole (Set key b)
 readOf g (Rest left) b = readRest left
 readOf g DownloadA b = moreIf (eqb b 1) DownloadFrom
 readOf g DownloadFrom b = moreIf (leb 0x20 b) (DownloadTo b)
-readOf g (DownloadTo from) b = moreIf (leb from b) (GlyphWidth from b)
-readOf g (GlyphWidth code last) b = moreIf (eqb b 5 || eqb b 7) (GlyphByte code last b)
-readOf g (GlyphByte code last left) b = readGlyphByte code last left
+readOf g (DownloadTo from) b = moreIf (leb from b) (GlyphWidth (batch from from b false))
+readOf g (GlyphWidth d) b = moreIf (eqb b 5 || eqb b 7) (GlyphByte d (noColumns b))
+readOf g (GlyphByte d c) b = readColumn d (withColumn c b)
 readOf g (Low w) b = More (High w b)
 readOf g (High w low) b = readWord g w (word16 low b)
 readOf g (ImageKind width height) b = moreIf (eqb b 1) (ImageData width height 0 0)
@@ -174,3 +202,5 @@ readOf g (EnlargeY x) b = Whole (Enlarge x b)
 readOf g SelectA b = Whole (Select b)
 readOf g WindowA b = moreIf (between 1 4 b) (WindowB b)
 readOf g (WindowB a) b = readWindowB a b
+readOf g EraseA b = More (EraseCode b)
+readOf g (EraseCode a) b = Whole (Erase a b)

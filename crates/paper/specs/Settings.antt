@@ -13,7 +13,7 @@ use Rattle.paper.specs.declared.Window.{Window}
 use Rattle.paper.specs.declared.Span.{Span}
 use Rattle.paper.specs.declared.View.{View}
 use Rattle.paper.specs.declared.Key.{Key}
-use Rattle.paper.specs.declared.Key.the-variants.{Charset, Codes, Caret, Brightness, Reverse, Speed, Mixing, Width, Write}
+use Rattle.paper.specs.declared.Key.the-variants.{Charset, Codes, Caret, Brightness, Reverse, Speed, Mixing, Width, Write, Switch}
 use Rattle.paper.specs.declared.Half.{Half}
 use Rattle.paper.specs.declared.Half.the-variants.{Nothing}
 use Rattle.paper.specs.declared.Hold.{Hold}
@@ -38,6 +38,7 @@ initialSettings g =
       speed = 0;
       width = 1;
       write = 0;
+      switch = 0;
       style = initialStyle;
     }
 
@@ -93,7 +94,7 @@ withSpans s ps = makeState (s .settings) (s .windows) (s .base) (s .selected) (s
 -- ---- the settings that one byte gives
 
 -- "52h n (0 to 13) and 74h n (0 to 5, 16 to 19); 43h n (0, 1); 58h n (1 to 8); 72h n (0, 1); 73h n (0 to 31); 77h n (0 to 3);
--- 03h w (0 or 1); 10h a (0, 1)"
+-- 03h w (0 or 1); 10h a (0, 1)"; "The switch takes 0 or 1"
 unfoldable pub inDomain : Module → Key → ℕ → Bool
 inDomain g Charset n = leb n 13
 inDomain g Codes n = leb n 5 || (between 16 19 n || (g .tables && eqb n 0xFF))
@@ -104,14 +105,15 @@ inDomain g Speed n = leb n 31
 inDomain g Mixing n = leb n 3
 inDomain g Width n = leb n 1
 inDomain g Write n = leb n 1
+inDomain g Switch n = leb n 1
 
 -- "x 1 to 4, y 1 to 2"
 unfoldable pub inEnlargement : ℕ → ℕ → Bool
 inEnlargement x y = between 1 4 x && between 1 2 y
 
 -- settings and a style by their parts
-abbrev pub makeSettings : ℕ → ℕ → ℕ → ℕ → ℕ → ℕ → ℕ → Style → Settings
-makeSettings charset codes caret brightness speed width write y =
+abbrev pub makeSettings : ℕ → ℕ → ℕ → ℕ → ℕ → ℕ → ℕ → ℕ → Style → Settings
+makeSettings charset codes caret brightness speed width write switch y =
     record {
       charset = charset;
       codes = codes;
@@ -120,6 +122,7 @@ makeSettings charset codes caret brightness speed width write y =
       speed = speed;
       width = width;
       write = write;
+      switch = switch;
       style = y;
     }
 
@@ -127,22 +130,23 @@ abbrev pub makeStyle : ℕ → ℕ → ℕ → ℕ → Style
 makeStyle reverse mixing across down = record { reverse = reverse; mixing = mixing; across = across; down = down }
 
 abbrev pub withStyle : Settings → Style → Settings
-withStyle v y = makeSettings (v .charset) (v .codes) (v .caret) (v .brightness) (v .speed) (v .width) (v .write) y
+withStyle v y = makeSettings (v .charset) (v .codes) (v .caret) (v .brightness) (v .speed) (v .width) (v .write) (v .switch) y
 
 abbrev pub enlarged : Settings → ℕ → ℕ → Settings
 enlarged v x y = withStyle v (makeStyle (v .style .reverse) (v .style .mixing) x y)
 
 -- one setting changed, all others kept
 unfoldable pub withSetting : Settings → Key → ℕ → Settings
-withSetting v Charset n = makeSettings n (v .codes) (v .caret) (v .brightness) (v .speed) (v .width) (v .write) (v .style)
-withSetting v Codes n = makeSettings (v .charset) n (v .caret) (v .brightness) (v .speed) (v .width) (v .write) (v .style)
-withSetting v Caret n = makeSettings (v .charset) (v .codes) n (v .brightness) (v .speed) (v .width) (v .write) (v .style)
-withSetting v Brightness n = makeSettings (v .charset) (v .codes) (v .caret) n (v .speed) (v .width) (v .write) (v .style)
+withSetting v Charset n = makeSettings n (v .codes) (v .caret) (v .brightness) (v .speed) (v .width) (v .write) (v .switch) (v .style)
+withSetting v Codes n = makeSettings (v .charset) n (v .caret) (v .brightness) (v .speed) (v .width) (v .write) (v .switch) (v .style)
+withSetting v Caret n = makeSettings (v .charset) (v .codes) n (v .brightness) (v .speed) (v .width) (v .write) (v .switch) (v .style)
+withSetting v Brightness n = makeSettings (v .charset) (v .codes) (v .caret) n (v .speed) (v .width) (v .write) (v .switch) (v .style)
 withSetting v Reverse n = withStyle v (makeStyle n (v .style .mixing) (v .style .across) (v .style .down))
-withSetting v Speed n = makeSettings (v .charset) (v .codes) (v .caret) (v .brightness) n (v .width) (v .write) (v .style)
+withSetting v Speed n = makeSettings (v .charset) (v .codes) (v .caret) (v .brightness) n (v .width) (v .write) (v .switch) (v .style)
 withSetting v Mixing n = withStyle v (makeStyle (v .style .reverse) n (v .style .across) (v .style .down))
-withSetting v Width n = makeSettings (v .charset) (v .codes) (v .caret) (v .brightness) (v .speed) n (v .write) (v .style)
-withSetting v Write n = makeSettings (v .charset) (v .codes) (v .caret) (v .brightness) (v .speed) (v .width) n (v .style)
+withSetting v Width n = makeSettings (v .charset) (v .codes) (v .caret) (v .brightness) (v .speed) n (v .write) (v .switch) (v .style)
+withSetting v Write n = makeSettings (v .charset) (v .codes) (v .caret) (v .brightness) (v .speed) (v .width) n (v .switch) (v .style)
+withSetting v Switch n = makeSettings (v .charset) (v .codes) (v .caret) (v .brightness) (v .speed) (v .width) (v .write) n (v .style)
 
 -- ---- windows
 

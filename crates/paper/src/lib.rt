@@ -34,7 +34,8 @@ pub struct Style {
     pub down: u8,
 }
 
-// The common settings, each named after its use; `charset`, `codes`, `caret`, `brightness` and `speed` are kept only.
+// The common settings, each named after its use; `charset`, `codes`, `caret`, `brightness` and `speed` are kept only. `switch` says
+// whether downloads are drawn.
 pub struct Settings {
     pub charset: u8,
     pub codes: u8,
@@ -43,6 +44,7 @@ pub struct Settings {
     pub speed: u8,
     pub width: u8,
     pub write: u8,
+    pub switch: u8,
     pub style: Style,
 }
 
@@ -110,6 +112,8 @@ pub enum Key {
     Width,
     // 1Fh 28h 77h 10h
     Write,
+    // 1Bh 25h
+    Switch,
 }
 
 // A 16-bit parameter that is awaited, with the parameters before it.
@@ -142,6 +146,28 @@ pub enum Word {
     },
 }
 
+// The codes of a define: its first, the one that it is at, its last, and whether one of them was dropped.
+pub struct Batch {
+    pub first: u8,
+    pub code: u8,
+    pub last: u8,
+    pub dropped: bool,
+}
+
+// A download's columns as they come: how many it has, 5 or 7, how many have come, and their bytes, leftmost first. One that has not
+// come is 0.
+pub struct Columns {
+    pub width: u8,
+    pub come: u8,
+    pub c0: u8,
+    pub c1: u8,
+    pub c2: u8,
+    pub c3: u8,
+    pub c4: u8,
+    pub c5: u8,
+    pub c6: u8,
+}
+
 // The half-read command: what is awaited, with the parameters gathered so far.
 pub enum Half {
     // no command is half read
@@ -166,20 +192,16 @@ pub enum Half {
     Rest {
         left: u8,
     },
-    // the define's a, its c1, its c2; then the width of `code`, or one of its `left` bytes
+    // a define of downloads: its a, its c1, its c2; then the width of the code that it is at, or that code's next column
     DownloadA,
     DownloadFrom,
     DownloadTo {
         from: u8,
     },
-    GlyphWidth {
-        code: u8,
-        last: u8,
-    },
+    GlyphWidth(Batch),
     GlyphByte {
-        code: u8,
-        last: u8,
-        left: u8,
+        batch: Batch,
+        columns: Columns,
     },
     // a 16-bit parameter, low byte first
     Low(Word),
@@ -208,6 +230,11 @@ pub enum Half {
     // a window's number, to be defined or cancelled, and which of the two
     WindowA,
     WindowB {
+        a: u8,
+    },
+    // a download to be erased: its a, and its code
+    EraseA,
+    EraseCode {
         a: u8,
     },
 }
@@ -245,6 +272,10 @@ pub enum Command {
     },
     Cancel(u8),
     Uncarried,
+    Erase {
+        a: u8,
+        code: u8,
+    },
 }
 
 // What a byte gives to a half-read command.
@@ -265,13 +296,18 @@ pub enum Reading {
         row: u16,
         byte: u8,
     },
+    // a download's last column has come, of the code that the define is at
+    GlyphEnd {
+        batch: Batch,
+        columns: Columns,
+    },
     // the command is cancelled at this byte
     Cancels,
     // this byte makes the code unknown
     UnknownCode,
 }
 
-// What a byte of the stream came to: the numbers 9 to 17.
+// What a byte of the stream came to: the numbers 9 to 19.
 pub enum Outcome {
     Unfinished,
     Carried,
@@ -282,6 +318,8 @@ pub enum Outcome {
     WindowHeld,
     TooLarge,
     NotDefined,
+    Dropped,
+    NotStored,
 }
 
 // Why a call was refused: the numbers 1 to 8, or that it was not.
@@ -307,7 +345,7 @@ pub enum Hold {
     },
 }
 
-// All that a panel knows besides its memory. `selected` is 0 for the base window, whose cursor is `base`.
+// All that a panel knows besides its memory and its downloads, which stand beside it: 144 bytes, lent like the memory. `selected` is 0 for the base window, whose cursor is `base`.
 pub struct State {
     pub settings: Settings,
     pub windows: [Window; 4],
@@ -324,7 +362,7 @@ pub struct Answer {
     pub state: State,
 }
 
-// What a feed answers: commands carried out, commands answered 11 to 17, and what the last byte came to.
+// What a feed answers: commands carried out, commands answered 11 to 19, and what the last byte came to.
 pub struct Fed {
     pub refusal: Refusal,
     pub state: State,
