@@ -1,0 +1,2 @@
+-- The laws' definitions.
+pub mod Columns
