@@ -1,6 +1,6 @@
 -- What the theorems assume can be had: for each premise that a theorem for users takes, one panel or list that meets it, with
 -- nothing assumed in turn. The panel is marked case 11's. A module is `Usable`: laws_state/proofs/Views `panel-usable`. Assumes nothing.
-use mathlib.Core.Path.{_≡_, refl}
+use mathlib.Core.Path.{_≡_, refl, ap, _∙_}
 use mathlib.Core.Bool.{true}
 use mathlib.Core.List.{[], _∷_}
 use Prim.Native.Nat.{ℕ, zero, suc, _<_, _≤_}
@@ -9,6 +9,7 @@ use lib.ListN.{length, getD, replicate}
 use Rattle.paper.specs.declared.Word.the-variants.{CursorX}
 use Rattle.paper.specs.declared.Half.the-variants.{Low, ImageData}
 use Rattle.paper.specs.Panel.{panel, glassLength, memoryLength, fontLength}
+use Rattle.paper.specs.Downloads.{allErased}
 use Rattle.paper.specs.Strokes.{noSpan, spanHolds, grown, grownBy}
 use Rattle.paper.specs.Numbers.{outcomeNumber}
 use Rattle.paper.specs.Reading.{readFirst, readUnit, readOf}
@@ -23,30 +24,32 @@ use Rattle.laws_state.proofs.Views.{panel-usable}
 use Rattle.laws_state.proofs.Calls.{started-accepted}
 use Rattle.laws_state.proofs.Sized.{start-sized}
 use Rattle.laws_glass.specs.Synced.{Synced}
-use Rattle.demands.specs.Demands.{holdNumber, windowFed, windowHeld, someFont, someMemory, someGlass}
-use Rattle.demands.proofs.Begun.{holdable, window-state}
+use Rattle.demands.specs.Events.{StateRecord}
+use Rattle.demands.specs.Demands.{holdNumber, windowFed, windowHeld, someFont, someMemory, someDownloads, someGlass}
+use Rattle.demands.proofs.Begun.{holdable, window-kept}
 use Rattle.demands.proofs.Demands.{demand-2-outcome, demand-2-byte, demand-3-start, demand-3-met}
 
--- demand-2-byte, demand-2-piece; laws_state/proofs/Accepted accepted-kept, run-accepted, and Calls feed-keeps to refresh-keeps
-pub fed-met : (length someMemory ≡ memoryLength panel) × (length someFont ≡ fontLength panel) × (accepted panel (started panel) ≡ true)
+-- demand-2-byte, demand-2-piece; laws_state/proofs/Records accepted-kept, run-accepted, and Calls feed-keeps to refresh-keeps
+pub fed-met : (length someMemory ≡ memoryLength panel) × (length someFont ≡ fontLength panel) × (accepted panel (started panel) (allErased someDownloads) ≡ true)
 unfolding panel
-fed-met = (refl, refl, started-accepted panel panel-usable)
+fed-met = (refl, refl, started-accepted panel panel-usable someDownloads refl)
 
 -- demand-2-answered, with these: 00h is an unknown code
-pub answered-met : 11 ≤ outcomeNumber (feedCall panel someFont (started panel) someMemory (0x00 ∷ []) .answer .outcome)
+pub answered-met : 11 ≤ outcomeNumber (feedCall panel someFont (started panel) (allErased someDownloads) someMemory (0x00 ∷ []) .answer .outcome)
 unfolding initialState readOf readFirst
 answered-met =
-    let unknown = demand-2-outcome someFont (started panel) 0x00 .number-13 .1 refl in
-    let f = demand-2-byte someFont (started panel) someMemory (fed-met .0) (fed-met .1) (fed-met .2) 0x00 in
+    let unknown = demand-2-outcome someFont (started panel) (allErased someDownloads) 0x00 .number-13 .1 refl in
+    let f = demand-2-byte someFont (started panel) (allErased someDownloads) someMemory (fed-met .0) (fed-met .1) (fed-met .2) 0x00 in
     rw (f .outcome) (omega (arith, unknown))
 
--- demand-3 takes `InStep`: demand-3-met. laws_state/proofs/Held run-guest, run-outside, feed-guest, feed-outside
-pub holding-met : Holding panel 1 0 (initialSettings panel) (windowHeld someFont someMemory someGlass .answer .state)
+-- demand-3 takes `InStep`: demand-3-met. laws_state/proofs/Held run-guest to feed-downloads
+pub holding-met : Holding panel 1 0 (initialSettings panel) (windowHeld someFont someMemory someDownloads someGlass .answer .state)
+    (windowFed someFont someMemory someDownloads .store)
 holding-met = demand-3-met .holding
 
 -- demand-3-feed; record_read/proofs/Back back, read-back
-pub sized-met : Sized panel (startCall panel someMemory .answer .state)
-sized-met = start-sized panel someMemory
+pub sized-met : Sized panel (startCall panel someMemory someDownloads .answer .state)
+sized-met = start-sized panel someMemory someDownloads
 
 -- demand-3-feed, demand-3-hold; laws_glass/proofs/Glass strokes-synced, refreshed-shows, refreshed-synced
 pub synced-met : (length (started panel .spans) ≡ panel .rows) × (glassLength panel ≤ length someMemory)
@@ -55,9 +58,11 @@ unfolding panel initialState
 synced-met = (refl, omega arith, refl, demand-3-start someMemory someGlass)
 
 -- demand-3-hold
-pub hold-met : holdNumber panel (windowFed someFont someMemory .answer .state) 1 ≡ 0
+pub hold-met : let f = windowFed someFont someMemory someDownloads in holdNumber panel (f .answer .state) (f .store) 1 ≡ 0
 unfolding panel
-hold-met = rw (window-state someFont someMemory refl refl) (holdable someFont)
+hold-met =
+    ap (λ (q : StateRecord). holdNumber panel (q .state) (q .downloads) 1) (window-kept someFont someMemory someDownloads refl refl refl)
+    ∙ holdable someFont
 
 -- laws_state/proofs/Spans run-holds, feed-holds
 pub span-met : spanHolds (getD (started panel .spans) 0 noSpan) 0 ≡ true
