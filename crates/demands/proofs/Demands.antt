@@ -1,13 +1,17 @@
 -- THE THREE DEMANDS, for the 112 by 16 module and for every input. What each says stands in specs/Demands, sentence by sentence;
 -- the calls of crates/panel are proved to be the five definitions named here. Assumes nothing.
 use mathlib.Core.Path.{_≡_, refl, sym, ap, subst, subst₂, _∙_}
-use mathlib.Core.Bool.{true}
+use mathlib.Core.Bool.{true, false}
 use mathlib.Core.List.{List, [], _∷_, _++_}
 use Prim.Native.Nat.{ℕ, _≤_}
 use native.Mathlib.Omega.{arith}
+use lib.Dec.{ltb}
 use lib.ListN.{length}
 use Rattle.paper.specs.declared.Settings.{Settings}
+use Rattle.paper.specs.declared.Batch.{Batch}
+use Rattle.paper.specs.declared.Columns.{Columns}
 use Rattle.paper.specs.declared.Half.the-variants.{Nothing}
+use Rattle.paper.specs.declared.Reading.the-variants.{GlyphEnd}
 use Rattle.paper.specs.declared.State.{State}
 use Rattle.paper.specs.Panel.{panel, memoryLength, glassLength, fontLength}
 use Rattle.paper.specs.Downloads.{storeLength, Faces, faces}
@@ -15,7 +19,7 @@ use Rattle.paper.specs.Numbers.{outcomeNumber}
 use Rattle.paper.specs.Reading.{readOf}
 use Rattle.paper.specs.Settings.{initialState, withHalf}
 use Rattle.paper.specs.Bounds.{accepted}
-use Rattle.paper.specs.Carry.{byteMeans, byteStore}
+use Rattle.paper.specs.Carry.{isHeld, byteMeans, byteStore}
 use Rattle.paper.specs.Calls.{started, startCall, feedCall, holdCall, refreshCall}
 use Rattle.laws_marked.specs.Marked.{windowOne}
 use Rattle.laws_state.specs.Sized.{Sized}
@@ -25,9 +29,10 @@ use Rattle.laws_state.proofs.Refusals.{feed-taken}
 use Rattle.laws_glass.specs.Synced.{Synced}
 use Rattle.laws_glass.proofs.Glass.{erased-synced}
 use Rattle.demands.specs.Events.{Event, refresh, joined, StateRecord, play}
-use Rattle.demands.specs.Demands.{StartAnswers, FeedAnswers, holdNumber, HoldAnswers, ReleaseAnswers, RefreshAnswers, ByteFed, ByteAnswers, OnlyAnswered, PieceFed, InStep, Served, windowFed, windowHeld, BegunInStep, someFont, someMemory, someDownloads, someGlass}
+use Rattle.demands.specs.Demands.{StartAnswers, FeedAnswers, holdNumber, HoldAnswers, ReleaseAnswers, RefreshAnswers, ByteFed, ByteAnswers, DefineEnds, OnlyAnswered, PieceFed, InStep, Served, windowFed, windowHeld, BegunInStep, someFont, someMemory, someDownloads, someGlass}
 use Rattle.demands.proofs.Calls.{start-answers, feed-answers, hold-answers, release-answers, refresh-answers}
 use Rattle.demands.proofs.Outcomes.{byte-answers}
+use Rattle.demands.proofs.Defines.{define-ends}
 use Rattle.demands.proofs.Feeds.{byte-fed, byte-answered, piece-fed}
 use Rattle.demands.proofs.Events.{served, feed-in-step, holds-in-step}
 use Rattle.demands.proofs.Begun.{holdable, as-initial, starts, window-kept, window-memory}
@@ -72,6 +77,11 @@ module _ (font : List ℕ) (s : State) (ds : List ℕ) where
         → OnlyAnswered s ds m (feedCall panel font s ds m (b ∷ []))
     unfolding panel
     demand-2-answered = byte-answered panel font s ds m (feed-taken panel font s ds m memory fonts ok)
+
+    -- a define read to its end outside a hold: 18 exactly if one of its codes is not stored
+    pub demand-2-define : (b : ℕ) (d : Batch) (c : Columns) → isHeld (s .hold) ≡ false → readOf panel (s .half) b ≡ GlyphEnd d c
+        → ltb (d .code) (d .last) ≡ false → DefineEnds d (byteMeans panel f s b) (byteStore panel f s b)
+    demand-2-define b d c = define-ends panel f s b d c ok
 
     -- a piece is the fold of its bytes, and what they show one by one
     pub demand-2-piece : (bytes : List ℕ) → PieceFed panel font s ds m bytes

@@ -1,7 +1,7 @@
 -- Demand 2, the outcome of a byte: each is given exactly when its row says. Assumes nothing.
 use mathlib.Core.Path.{_≡_, refl, sym, ap, ap₂, subst, _∙_}
 use mathlib.Core.Logic.{_↔_, _≢_, inl, inr, ⊎-elim, Iff·rfl}
-use mathlib.Core.Bool.{Bool, true, false, cond, not, _&&_, _||_, true≢false, false≢true}
+use mathlib.Core.Bool.{Bool, true, false, cond, _&&_, true≢false, false≢true}
 use mathlib.Core.List.{List, []}
 use Prim.Native.Nat.{ℕ, _≤_}
 use native.Mathlib.Omega.{arith}
@@ -19,12 +19,12 @@ use Rattle.paper.specs.declared.Outcome.{Outcome}
 use Rattle.paper.specs.declared.Outcome.the-variants.{Unfinished, Carried, OutOfDomain, Cancelled, Unknown, NotCarried, WindowHeld, TooLarge, NotDefined, Dropped, NotStored}
 use Rattle.paper.specs.declared.State.{State}
 use Rattle.paper.specs.Numbers.{outcomeNumber}
-use Rattle.paper.specs.Downloads.{putIn, isDropped, Faces}
+use Rattle.paper.specs.Downloads.{putIn, Faces}
 use Rattle.paper.specs.Reading.{batch, nextCode, noColumns, readOf}
 use Rattle.paper.specs.Settings.{withHalf}
-use Rattle.paper.specs.Carry.{Meaning, means, Asked, askedOf, isHeld, carriedOut, answers, commandOf, noted, defineAnswer, glyphEnds, takeOf, byteMeans, commandStore, takeStore, byteStore}
+use Rattle.paper.specs.Carry.{Meaning, means, Asked, askedOf, isHeld, carriedOut, answers, commandOf, noted, glyphEnds, takeOf, byteMeans, commandStore, takeStore, byteStore}
 use Rattle.laws_state.proofs.Cases.{by-command}
-use Rattle.demands.specs.Demands.{finishes, endsImage, endsGlyph, IsCommand, EndsDefine, someDropped, After14, After15, After11, After17, After16, ByteAnswers}
+use Rattle.demands.specs.Demands.{finishes, endsImage, IsCommand, EndsDefine, someDropped, After14, After15, After11, After17, After16, ByteAnswers}
 use Rattle.demands.proofs.Rows.{never, here, later, otherwise}
 
 -- the number of what a byte comes to
@@ -308,7 +308,7 @@ a-command g ds s c P h =
 -- ---- a download's last column
 
 -- what a define read to its end is answered is said of its own batch
-ends-own : (d : Batch) (c : Columns) (P : Batch → Type 0) → EndsDefine (GlyphEnd d c) P → (ltb (d .code) (d .last) ≡ false) × P d
+pub ends-own : (d : Batch) (c : Columns) (P : Batch → Type 0) → EndsDefine (GlyphEnd d c) P → (ltb (d .code) (d .last) ≡ false) × P d
 ends-own d c P x =
     subst (λ (q : Batch). (ltb (q .code) (q .last) ≡ false) × P q) (sym (ap batchIn (x .2))) (x .3, x .4)
 

@@ -24,7 +24,7 @@ use Rattle.paper.specs.Strokes.{noSpan, noSpans, spanHolds, applyAll, refreshed
 use Rattle.paper.specs.Numbers.{refusalNumber, outcomeNumber, carriedBy, answeredBy}
 use Rattle.paper.specs.Reading.{between}
 use Rattle.paper.specs.Settings.{initialSettings, initialState, withHalf, withSpans, windowAt, isDefined}
-use Rattle.paper.specs.Bounds.{accepted}
+use Rattle.paper.specs.Bounds.{allStored, accepted}
 use Rattle.paper.specs.Cells.{eraseStroke}
 use Rattle.paper.specs.Carry.{Asked, askedOf, isHeld, Meaning}
 use Rattle.paper.specs.Calls.{Feeding, feeding, settled, run, fedNothing, started, startCall, feedCall, heldBy, holdCall, released, releaseCall, emptied, Refreshing, refreshCall}
@@ -269,7 +269,12 @@ pub record ByteAnswers (g : Module) (ds : List ℕ) (s : State) (r : Reading) (t
   -- any other byte that finishes nothing leaves them as they are
   pub unfinished : outcomeNumber (t .outcome) ≡ 9 → endsGlyph r ≡ false → es ≡ ds
 
--- the same of the byte as it is fed: nothing changes, and one command more is answered
+-- "a define read to its end answers 18 exactly if one of its codes was dropped": afterwards one of them, first to last, is not
+-- stored
+abbrev pub DefineEnds : Batch → Meaning → List ℕ → Type 0
+DefineEnds d t es = (outcomeNumber (t .outcome) ≡ 18) ↔ (allStored es (d .first) (d .last + 1) ≡ false)
+
+-- an answer of 11 to 19 as the byte is fed: nothing changes, and one command more is answered
 pub record OnlyAnswered (s : State) (ds m : List ℕ) (f : Feeding) : Type 0 where
   pub mem : f .mem ≡ m
   pub state : f .answer .state ≡ withHalf s Nothing
