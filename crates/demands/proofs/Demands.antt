@@ -57,7 +57,7 @@ demand-1-refresh = refresh-answers panel
 -- ==== DEMAND 2: feeding single bytes shows every outcome; a fed piece is the fold
 
 module _ (font : List ℕ) (s : State) (ds : List ℕ) where
-  -- a font and the downloads, what a byte means with them, and the downloads that it leaves
+  -- the font and the downloads
   abbrev f : Faces
   f = faces font ds
 
