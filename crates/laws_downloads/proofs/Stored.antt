@@ -1,17 +1,17 @@
 -- Accepted downloads: what each place holds, and which stay accepted when another place is written. Assumes nothing.
 use mathlib.Core.Path.{_≡_, refl, sym, ap, _∙_}
-use mathlib.Core.Bool.{Bool, true, false, cond, _&&_, _||_, or-true}
+use mathlib.Core.Bool.{true, cond, _&&_, or-true}
 use mathlib.Core.List.{List}
 use mathlib.Core.Logic.{_⊎_, inl, inr, ⊎-elim}
-use Prim.Native.Nat.{ℕ, _+_, _*_, _/_, _≤_, _<_}
+use Prim.Native.Nat.{ℕ, _+_, _*_, _≤_, _<_}
 use native.Mathlib.Nat.{add-zero, add-assoc}
 use native.Mathlib.Omega.{arith}
 use lib.ListN.{length, getD}
 use lib.Dec.{eqb, leb}
 use borrow.Author.Tests.{leb-true, eqb-true, eq-eqb}
 use Rattle.paper.specs.Panel.{bytesFrom}
-use Rattle.paper.specs.Downloads.{placeLength, storeLength, placesIn, codeAt, widthAt, columnAt, place, withPlace, ownGlyph}
-use Rattle.paper.specs.Bounds.{allBelow, isFree, downloadOk, placeOk, storeOk}
+use Rattle.paper.specs.Downloads.{placeLength, storeLength, codeAt, widthAt, place, withPlace, ownGlyph}
+use Rattle.paper.specs.Bounds.{isFree, downloadOk, placeOk, storeOk}
 use Rattle.laws_bytes.proofs.Tests.{both-of}
 use Rattle.laws_downloads.proofs.Tests.{by-test, either-of, below-at, below-all, below-same}
 use Rattle.laws_downloads.proofs.Written.{with-other, place-with-other, bytes-same}
