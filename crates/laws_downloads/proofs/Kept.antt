@@ -10,9 +10,9 @@ use borrow.Author.Tests.{ltb-true, ltb-false, leb-true, leb-false, le-leb, lt-le
 use Rattle.paper.specs.declared.Columns.{Columns}
 use Rattle.paper.specs.Downloads.{placeLength, storeLength, placesIn, codeAt, place, isStored, isFull, withPlace, downloadBytes, freeBytes, placeFor, isDropped, putIn, erased, allErased}
 use Rattle.paper.specs.Bounds.{isFree, downloadOk, placeOk, storeOk}
+use Rattle.laws_bytes.specs.Readings.{wholeColumns}
 use Rattle.laws_bytes.proofs.Tests.{both-of}
 use Rattle.laws_memory.proofs.Tests.{eq-cases}
-use Rattle.laws_downloads.specs.Columns.{wholeOk}
 use Rattle.laws_downloads.proofs.Tests.{by-test, not-ltb, below-all}
 use Rattle.laws_downloads.proofs.Places.{place-le, place-found, stored-at, stored-none}
 use Rattle.laws_downloads.proofs.Written.{with-length, with-places, with-same, with-other, with-beyond, code-same, code-other, place-with-other, place-with-same}
@@ -84,9 +84,9 @@ module _ (ds : List ℕ) where
 -- ---- a place that is written is accepted
 
 module _ (ds : List ℕ) (p : ℕ) where
-  download-written : (code : ℕ) (c : Columns) → p < placesIn ds → 0x20 ≤ code → wholeOk c ≡ true
+  download-written : (code : ℕ) (c : Columns) → p < placesIn ds → 0x20 ≤ code → wholeColumns c ≡ true
       → downloadOk (withPlace ds p (downloadBytes code c)) p ≡ true
-  unfolding downloadOk
+  unfolding downloadOk wholeColumns
   download-written code c l low whole =
       let bytes = downloadBytes code c in
       rw (
@@ -170,7 +170,7 @@ module _ (ds : List ℕ) (code : ℕ) (c : Columns) where
           (sym (not-true (isStored ds 0) f) ∙ stored-at ds 0 k there (sym (code-other ds p bytes k there ne) ∙ e)))
 
   -- accepted downloads stay accepted
-  pub put-ok : storeOk ds ≡ true → 0x20 ≤ code → wholeOk c ≡ true → storeOk (putIn ds code c) ≡ true
+  pub put-ok : storeOk ds ≡ true → 0x20 ≤ code → wholeColumns c ≡ true → storeOk (putIn ds code c) ≡ true
   unfolding putIn
   put-ok ok low whole = store-all es (with-length ds p bytes ∙ n) (λ k l. eq-cases k p (new k l) (old k l))
     where

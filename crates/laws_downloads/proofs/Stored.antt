@@ -57,7 +57,7 @@ pub store-length : (ds : List ℕ) → storeOk ds ≡ true → length ds ≡ sto
 unfolding storeOk
 store-length ds ok = eqb-true (length ds) storeLength (both-of (eqb (length ds) storeLength) _ ok .0)
 
-store-place : (ds : List ℕ) → storeOk ds ≡ true → (k : ℕ) → k < 16 → placeOk ds k ≡ true
+pub store-place : (ds : List ℕ) → storeOk ds ≡ true → (k : ℕ) → k < 16 → placeOk ds k ≡ true
 unfolding storeOk
 store-place ds ok = below-at (placeOk ds) 16 (both-of (eqb (length ds) storeLength) _ ok .1)
 
@@ -71,7 +71,7 @@ free-code ds k h =
     ap (λ (a : ℕ). getD ds a 0) (sym (add-zero (placeLength * k)))
     ∙ eqb-true _ 0 (below-at (λ r. eqb (getD ds (placeLength * k + r) 0) 0) placeLength h 0 (omega arith))
 
-download-code : (ds : List ℕ) (k : ℕ) → downloadOk ds k ≡ true → 0x20 ≤ codeAt ds k
+pub download-code : (ds : List ℕ) (k : ℕ) → downloadOk ds k ≡ true → 0x20 ≤ codeAt ds k
 unfolding downloadOk
 download-code ds k h = leb-true 0x20 (codeAt ds k) (both-of (leb 0x20 (codeAt ds k)) _ h .0)
 
@@ -87,7 +87,7 @@ place-taken ds k h e = rw (h, eq-eqb (place ds (codeAt ds k)) k e, or-true)
 
 module _ (ds : List ℕ) (ok : storeOk ds ≡ true) where
   -- a place is free, or holds a download of which it is the first place
-  held : (k : ℕ) → k < 16
+  pub held : (k : ℕ) → k < 16
       → (isFree ds k ≡ true) ⊎ ((downloadOk ds k ≡ true) × (place ds (codeAt ds k) ≡ k))
   unfolding placeOk
   held k l =

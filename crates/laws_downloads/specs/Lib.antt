@@ -1,2 +1,0 @@
--- The laws' definitions.
-pub mod Columns
