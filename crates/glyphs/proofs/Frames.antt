@@ -1,10 +1,14 @@
--- The blanks of a framed glyph, and its dots on a row. Assumes nothing.
+-- Which glyphs are framed, their blanks, and their dots on a row. Assumes nothing.
 use mathlib.Core.Path.{_≡_, refl}
-use mathlib.Core.Bool.{Bool, true, false, cond}
+use mathlib.Core.Bool.{Bool, true, false, cond, _&&_}
+use mathlib.Core.List.{List}
 use Prim.Native.Nat.{ℕ, zero, suc, _*_, _/_, _^_, _<_, _≤_}
 use native.Mathlib.Omega.{arith}
 use lib.Dec.{eqb}
+use lib.ListN.{length}
+use borrow.Author.Tests.{eq-eqb, ne-eqb}
 use Rattle.paper.specs.declared.Module.{Module}
+use Rattle.paper.specs.Panel.{isFramed}
 use Rattle.paper.specs.Cells.{blankColumns}
 use Rattle.laws_bytes.specs.Bytes.{placedByte}
 use Rattle.glyphs.specs.declared.Lift.{Lift}
@@ -17,6 +21,20 @@ columns-few g w = go (g .framed) (eqb w 0) where
   go true true = omega arith
   go true false = omega arith
   go false t = omega arith
+
+-- a glyph with as many columns as the font's have is framed where they are, and no other is
+module _ (g : Module) (cols : List ℕ) where
+  pub framed-alike : length cols ≡ g .glyph → isFramed g cols ≡ g .framed
+  framed-alike e = rw (eq-eqb _ _ e) (go (g .framed)) where
+    go : (f : Bool) → (f && true) ≡ f
+    go true = refl
+    go false = refl
+
+  pub framed-other : (length cols ≡ g .glyph → ⊥) → isFramed g cols ≡ false
+  framed-other n = rw (ne-eqb _ _ n) (go (g .framed)) where
+    go : (f : Bool) → (f && false) ≡ false
+    go true = refl
+    go false = refl
 
 -- the placing by the two tests
 abbrev liftBy : Bool → Bool → Lift

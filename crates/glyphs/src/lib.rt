@@ -8,7 +8,7 @@ ghost use mathlib.Core.Bool.{cond};
 ghost use Prim.Native.Nat.{_+_, _*_, _/_, _^_, _≤_, _<_};
 ghost use lib.Dec.{eqb};
 ghost use lib.ListN.{length};
-ghost use Rattle.paper.specs.Panel.{fontLength, fontGlyph, isFramed};
+ghost use Rattle.paper.specs.Panel.{fontLength, fontGlyph};
 ghost use Rattle.paper.specs.Downloads.{placesIn, faces, ownGlyph, glyphOf};
 ghost use Rattle.paper.specs.Cells.{blanksLeft, blankColumns, cellWidth};
 ghost use Rattle.laws_bytes.specs.Bytes.{double, glyphColumn, reversedByte, mixedByte};
@@ -94,8 +94,9 @@ fn own_glyph(own: &[u8], k: usize) -> &[u8]
     &own[first..first + 7]
 }
 
-// A code's columns where there are downloads: its own if it is stored, else the font's.
-fn stored_glyph<'a>(g: Module, font: &'a [u8], own: &'a [u8], code: u8) -> &'a [u8]
+// The columns that a code is drawn from: its download's if it is stored, else the font's. Where there are no downloads callers take the
+// font's at once, since a search is dear in a loop over characters.
+pub fn glyph_of<'a>(g: Module, font: &'a [u8], own: &'a [u8], code: u8) -> &'a [u8]
     requires { ⌜ (length (now font) ≡ fontLength g) × (0x20 ≤ code) ⌝ }
     ensures { λ r. ⌜ now r ≡ glyphOf g (faces (now (font .entry)) (now (own .entry))) code ⌝ }
 {
@@ -104,24 +105,6 @@ fn stored_glyph<'a>(g: Module, font: &'a [u8], own: &'a [u8], code: u8) -> &'a [
         return own_glyph(own, k);
     }
     font_glyph(g, font, code)
-}
-
-// The columns that a code is drawn from, of the font or of the downloads in force. Where there are none it is one test and no search.
-pub fn glyph_of<'a>(g: Module, font: &'a [u8], own: &'a [u8], code: u8) -> &'a [u8]
-    requires { ⌜ (length (now font) ≡ fontLength g) × (0x20 ≤ code) ⌝ }
-    ensures { λ r. ⌜ now r ≡ glyphOf g (faces (now (font .entry)) (now (own .entry))) code ⌝ }
-{
-    if own.len() == 0 {
-        return font_glyph(g, font, code);
-    }
-    stored_glyph(g, font, own, code)
-}
-
-// Whether a glyph of these columns is framed by blanks.
-pub fn framed_by(g: Module, cols: &[u8]) -> bool
-    ensures { λ b. ⌜ b ≡ isFramed g (now (cols .entry)) ⌝ }
-{
-    g.framed & (cols.len() == g.glyph)
 }
 
 // How many blank columns stand on the left of a glyph.
