@@ -5,9 +5,9 @@ use native.Mathlib.Omega.{arith}
 use borrow.Author.Needs.{needs}
 use Rattle.paper.specs.Strokes.{rectAt}
 use Rattle.paper.specs.Downloads.{faces}
-use Rattle.glyphs.proofs.Parts.{font-alone}
+use Rattle.glyphs.proofs.Parts.{font-columns, font-alone}
 use Rattle.cells.specs.Drawn.{drawn}
-use Rattle.text.proofs.Steps.{font-columns, drawn-from}
+use Rattle.text.proofs.Steps.{drawn-from}
 use Rattle.runs.proofs.draw_code.Statement.{statement}
 use Rattle.runs.proofs.draw_code.Tie as tie
 

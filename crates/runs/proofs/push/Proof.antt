@@ -7,10 +7,10 @@ use borrow.Author.Needs.{needs}
 use lib.ListN.{length}
 use Rattle.paper.specs.Downloads.{faces, glyphOf}
 use Rattle.paper.specs.Cells.{drawStroke}
-use Rattle.glyphs.proofs.Parts.{font-alone}
+use Rattle.glyphs.proofs.Parts.{font-columns, font-alone}
 use Rattle.cells.specs.Drawn.{drawnAs, drawn}
 use Rattle.moves.proofs.Done.{does-stroke}
-use Rattle.text.proofs.Steps.{font-columns, drawn-from}
+use Rattle.text.proofs.Steps.{drawn-from}
 use Rattle.runs.proofs.Lines.{drawn-pushed}
 use Rattle.runs.proofs.push.Statement.{statement}
 use Rattle.runs.proofs.push.Tie as tie
