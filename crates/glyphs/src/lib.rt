@@ -8,10 +8,12 @@ ghost use mathlib.Core.Bool.{cond};
 ghost use Prim.Native.Nat.{_+_, _*_, _/_, _^_, _≤_, _<_};
 ghost use lib.Dec.{eqb};
 ghost use lib.ListN.{length};
-ghost use Rattle.paper.specs.Panel.{fontLength, isFramed};
+ghost use Rattle.paper.specs.Panel.{fontLength, fontGlyph};
+ghost use Rattle.paper.specs.Downloads.{placesIn, ownGlyph};
 ghost use Rattle.paper.specs.Cells.{blanksLeft, blankColumns, cellWidth};
 ghost use Rattle.laws_bytes.specs.Bytes.{double, glyphColumn, reversedByte, mixedByte};
 ghost use Rattle.glyphs.specs.Cell.{cellOf};
+ghost use Rattle.glyphs.specs.Own.{ownColumns};
 ghost use Rattle.glyphs.specs.Columns.{tallOf, inkColumn, nextOf, blankRight, framedOn, placingOf};
 
 // A column of a cell repeated downwards: the bytes of its two rows. A cell one row high has the first alone.
@@ -71,11 +73,37 @@ pub fn cell_of(g: Module, w: u8, style: Style) -> Cell
     }
 }
 
-// Whether a glyph of these columns is framed by blanks.
-pub fn framed_by(g: Module, cols: &[u8]) -> bool
-    ensures { λ b. ⌜ b ≡ isFramed g (now (cols .entry)) ⌝ }
+// A code's columns in the font.
+pub fn font_glyph(g: Module, font: &[u8], code: u8) -> &[u8]
+    requires { ⌜ (length (now font) ≡ fontLength g) × (0x20 ≤ code) ⌝ }
+    ensures { λ r. ⌜ now r ≡ fontGlyph g (now (font .entry)) code ⌝ }
 {
-    g.framed & (cols.len() == g.glyph)
+    let first = g.glyph * ((code as usize) - 0x20);
+    let end = first + g.glyph;
+    &font[first..end]
+}
+
+// The columns of the download in place k.
+fn columns_at(own: &[u8], k: usize) -> &[u8]
+    requires { ⌜ k < placesIn (now own) ⌝ }
+    ensures { λ r. ⌜ now r ≡ ownGlyph (now (own .entry)) k ⌝ }
+{
+    let first = 9 * k + 2;
+    if own[9 * k + 1] == 5 {
+        return &own[first..first + 5];
+    }
+    &own[first..first + 7]
+}
+
+// The columns of a code's download, none where it is not stored.
+pub fn own_glyph(own: &[u8], code: u8) -> &[u8]
+    ensures { λ r. ⌜ now r ≡ ownColumns (now (own .entry)) code ⌝ }
+{
+    let k = downloads::place(own, code);
+    if k < own.len() / 9 {
+        return columns_at(own, k);
+    }
+    &own[0..0]
 }
 
 // How many blank columns stand on the left of a glyph.
