@@ -115,7 +115,7 @@ static void play_cursor(struct run *run)
     const uint8_t *record = run->world.record;
     want_words(&run->line, 1, 1);
     unsigned selected = record[AT_SELECTED];
-    if (selected > WINDOWS)
+    if (selected > RECORD_WINDOWS)
         fail(&run->line, "the selected window is none of the panel's");
     append(&run->written, "cursor %u", selected);
     describe_cursor(&run->written, record, selected);
@@ -154,9 +154,9 @@ static void play_peek(struct run *run)
 static void dump_dots(struct text *text, const uint8_t *bytes, size_t first,
                       size_t last)
 {
-    for (unsigned dot = 0; dot < 8 * ROWS; dot++) {
+    for (unsigned dot = 0; dot < 8 * RECORD_ROWS; dot++) {
         for (size_t x = first; x <= last; x++) {
-            uint8_t byte = bytes[ROWS * x + dot / 8];
+            uint8_t byte = bytes[RECORD_ROWS * x + dot / 8];
             append_byte(text, byte >> (7 - dot % 8) & 1 ? '#' : '.');
         }
         append_byte(text, '\n');
@@ -173,7 +173,7 @@ static void play_dump(struct run *run)
         return;
     }
     const uint8_t *bytes = bytes_named(run, &length);
-    size_t first = 0, last = length / ROWS - 1;
+    size_t first = 0, last = length / RECORD_ROWS - 1;
     if (run->line.count > 2) {
         want_words(&run->line, 4, 4);
         last = (size_t)number_at(&run->line, 3, 0, last);

@@ -30,7 +30,7 @@ static void spoil_window(const struct line *line, uint8_t *record)
     static const uint8_t none[WINDOW_BYTES];
     want_words(line, 4, 10);
     uint8_t *window =
-        record + window_place((unsigned)number_at(line, 2, 1, WINDOWS));
+        record + window_place((unsigned)number_at(line, 2, 1, RECORD_WINDOWS));
     if (is_word(line, 3, "none")) {
         want_words(line, 4, 4);
         memcpy(window, none, WINDOW_BYTES);
@@ -60,7 +60,7 @@ static void spoil_selected(const struct line *line, uint8_t *record)
 static void spoil_setting(const struct line *line, uint8_t *from)
 {
     want_words(line, 4, 4);
-    for (unsigned i = 0; i < SETTINGS; i++)
+    for (unsigned i = 0; i < SETTINGS_BYTES; i++)
         if (is_word(line, 2, settings[i].key)) {
             from[settings[i].at] = narrow_at(line, 3);
             return;
@@ -98,16 +98,16 @@ static void spoil_held(const struct line *line, uint8_t *record)
 static void spoil_span(const struct line *line, uint8_t *record)
 {
     want_words(line, 4, 5);
-    uint8_t *span = record + AT_SPANS +
-                    SPAN_BYTES * (unsigned)number_at(line, 2, 0, ROWS - 1);
+    unsigned row = (unsigned)number_at(line, 2, 0, RECORD_ROWS - 1);
+    uint8_t *span = record + AT_SPANS + SPAN_BYTES * row;
     if (is_word(line, 3, "none")) {
         want_words(line, 4, 4);
         memset(span, 0, SPAN_BYTES);
         return;
     }
     want_words(line, 5, 5);
-    put16(span, wide_at(line, 3));
-    put16(span + 2, wide_at(line, 4) + 1);
+    put16(span + SPAN_FIRST, wide_at(line, 3));
+    put16(span + SPAN_END, wide_at(line, 4) + 1);
 }
 
 /* Feeds the bytes from word 2 on to a panel of its own, from its start: they
@@ -140,6 +140,22 @@ static void spoil_half(const struct line *line, uint8_t *record)
     memcpy(record + AT_HALF, begun + AT_HALF, HALF_BYTES);
 }
 
+/* "a code, a width and the columns; up to 9 of them, the rest are 0" */
+static void spoil_download(const struct line *line, uint8_t *record)
+{
+    want_words(line, 4, 3 + DOWNLOAD_BYTES);
+    uint8_t *place =
+        record +
+        download_place((unsigned)number_at(line, 2, 0, RECORD_DOWNLOADS - 1));
+    memset(place, 0, DOWNLOAD_BYTES);
+    if (is_word(line, 3, "none")) {
+        want_words(line, 4, 4);
+        return;
+    }
+    for (size_t i = 3; i < line->count; i++)
+        place[i - 3] = byte_at(line, i);
+}
+
 /* Any bytes of the record. */
 static void spoil_record(const struct line *line, uint8_t *record)
 {
@@ -159,7 +175,7 @@ static const struct {
     {"selected", spoil_selected}, {"set", spoil_set},
     {"held", spoil_held},     {"saved", spoil_saved},
     {"span", spoil_span},     {"half", spoil_half},
-    {"record", spoil_record},
+    {"download", spoil_download}, {"record", spoil_record},
 };
 
 void spoil(const struct line *line, uint8_t *record)

@@ -1,9 +1,13 @@
 /* The state in words, from its record. */
 #include "state.h"
 
-const struct setting settings[SETTINGS] = {
-    {"52", 0}, {"74", 1}, {"43", 2}, {"58", 3},  {"72", 7},    {"73", 4},
-    {"77", 8}, {"w", 5},  {"x", 9},  {"y", 10}, {"write", 6},
+const struct setting settings[SETTINGS_BYTES] = {
+    {"52", SET_CHARSET},      {"74", SET_CODEPAGE},
+    {"43", SET_CURSOR_SHOWN}, {"58", SET_BRIGHTNESS},
+    {"72", SET_REVERSE},      {"73", SET_SPEED},
+    {"77", SET_MIXING},       {"w", SET_W},
+    {"x", SET_X_ENLARGED},    {"y", SET_Y_ENLARGED},
+    {"write", SET_WRITE_MODE}, {"own", SET_OWN},
 };
 
 unsigned get16(const uint8_t *from)
@@ -20,6 +24,11 @@ void put16(uint8_t *to, unsigned n)
 unsigned window_place(unsigned k)
 {
     return AT_WINDOWS + WINDOW_BYTES * (k - 1);
+}
+
+unsigned download_place(unsigned p)
+{
+    return AT_DOWNLOADS + DOWNLOAD_BYTES * p;
 }
 
 bool is_held(const uint8_t *record)
@@ -51,7 +60,7 @@ static void describe_settings(struct text *text, const char *name,
                               const uint8_t *from)
 {
     append(text, "%s", name);
-    for (unsigned i = 0; i < SETTINGS; i++)
+    for (unsigned i = 0; i < SETTINGS_BYTES; i++)
         append(text, " %s %u", settings[i].key,
                (unsigned)from[settings[i].at]);
     append_byte(text, '\n');
@@ -78,8 +87,23 @@ static void describe_span(struct text *text, unsigned row,
     if (is_zero(span, SPAN_BYTES))
         append(text, "span %u none\n", row);
     else
-        append(text, "span %u %u %u\n", row, get16(span),
-               (get16(span + 2) - 1) & 0xFFFF);
+        append(text, "span %u %u %u\n", row, get16(span + SPAN_FIRST),
+               (get16(span + SPAN_END) - 1) & 0xFFFF);
+}
+
+/* "Each place of the downloads that is not free has a line": "as many columns
+ * as its width says (seven if it is not 5)" */
+static void describe_download(struct text *text, unsigned p,
+                              const uint8_t *place)
+{
+    if (is_zero(place, DOWNLOAD_BYTES))
+        return;
+    const unsigned width = place[DOWNLOAD_WIDTH];
+    append(text, "download %u %02X %u", p, (unsigned)place[DOWNLOAD_CODE],
+           width);
+    for (unsigned i = 0; i < (width == 5 ? 5 : RECORD_COLUMNS); i++)
+        append(text, " %02X", (unsigned)place[DOWNLOAD_COLUMNS + i]);
+    append_byte(text, '\n');
 }
 
 static void describe_held(struct text *text, const uint8_t *record)
@@ -98,12 +122,14 @@ void describe(struct text *text, const uint8_t *record)
     append(text, "base");
     describe_place(text, record + AT_BASE);
     append_byte(text, '\n');
-    for (unsigned k = 1; k <= WINDOWS; k++)
+    for (unsigned k = 1; k <= RECORD_WINDOWS; k++)
         describe_window(text, k, record + window_place(k));
     describe_settings(text, "set", record + AT_SETTINGS);
     if (is_held(record))
         describe_settings(text, "saved", record + AT_SAVED);
-    for (unsigned row = 0; row < ROWS; row++)
+    for (unsigned row = 0; row < RECORD_ROWS; row++)
         describe_span(text, row, record + AT_SPANS + SPAN_BYTES * row);
     append(text, "half %s\n", record[AT_HALF] == 0 ? "none" : "some");
+    for (unsigned p = 0; p < RECORD_DOWNLOADS; p++)
+        describe_download(text, p, record + download_place(p));
 }

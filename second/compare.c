@@ -201,7 +201,7 @@ struct made {
 
 static uint64_t seed, calls, bytes_fed;
 static uint64_t answers_seen[PANEL_RECORD_LENGTH + 1];
-static uint64_t outcomes_seen[PANEL_NOT_DEFINED + 1];
+static uint64_t outcomes_seen[PANEL_NOT_STORED + 1];
 
 static void print_bytes(const char *what, const uint8_t *from, size_t n)
 {
@@ -462,6 +462,7 @@ static void believe_the_state(void)
     belief.x_enlarged = state.settings.x_enlarged;
     belief.y_enlarged = state.settings.y_enlarged;
     belief.write_mode = state.settings.write_mode;
+    belief.own = state.settings.own;
 }
 
 static void turn_well_formed(void)
@@ -490,6 +491,28 @@ static void turn_boundaries(void)
 {
     for (unsigned n = between(4, 60); n > 0; n--)
         put_boundary();
+    feed_cut();
+}
+
+/* Downloads, mostly with each command a piece, so that its answer shows; half
+ * the time with sixteen stored. */
+static void turn_downloads(void)
+{
+    if (once_in(2))
+        put_full_store();
+    put_some_own();
+    feed_cut();
+    for (unsigned n = between(4, 40); n > 0; n--) {
+        put_download_command();
+        if (once_in(3)) {
+            put_command();
+        } else {
+            feed(bytes, length);
+            length = 0;
+        }
+        if (once_in(12))
+            call_between();
+    }
     feed_cut();
 }
 
@@ -568,16 +591,18 @@ static void turn(void)
     unsigned n = below(100);
     length = 0;
     believe_the_state();
-    if (n < 35)
+    if (n < 30)
         turn_well_formed();
-    else if (n < 50)
+    else if (n < 44)
         turn_damaged();
-    else if (n < 58)
+    else if (n < 51)
         turn_noise();
-    else if (n < 66)
+    else if (n < 58)
         turn_boundaries();
-    else if (n < 75)
+    else if (n < 67)
         turn_held();
+    else if (n < 75)
+        turn_downloads();
     else if (n < 98)
         turn_spoiled();
     else
@@ -649,7 +674,7 @@ int main(int argc, char **argv)
            calls, bytes_fed);
     print_seen("answers", answers_seen, 0, PANEL_RECORD_LENGTH + 1);
     print_seen("outcomes", outcomes_seen, PANEL_UNFINISHED,
-               PANEL_NOT_DEFINED + 1);
+               PANEL_NOT_STORED + 1);
     printf("; no difference\n");
     return fflush(stdout) == 0 ? 0 : 2;
 }

@@ -3,6 +3,8 @@
 #include "../include/panel.h"
 #include "record.h"
 
+_Static_assert(RECORD_BYTES == PANEL_STATE, "one record for both");
+
 /* "A refused call leaves the record's bytes alone" */
 static void keep(unsigned number, const second_state *state, uint8_t *record)
 {

@@ -3,6 +3,7 @@
  * streams with a PARTth of the bytes; `generate bounds` every bound of a
  * state, in and out. The same seed writes the same script
  * everywhere. The streams' bytes are made by streams.h. */
+#include "../play/places.h"
 #include "streams.h"
 
 #include <stdio.h>
@@ -190,6 +191,24 @@ static void stream_noise(void)
     write_cut(0, 4);
 }
 
+/* Downloads, each command a piece, half the time with sixteen stored. */
+static void stream_downloads(void)
+{
+    if (once_in(2))
+        put_full_store();
+    if (once_in(3))
+        put_define();
+    put_own(1);
+    write_piece(0, length, false);
+    for (unsigned n = amount(6, 18); n > 0; n--) {
+        size_t at = length;
+        put_download_command();
+        write_piece(at, length, once_in(12));
+        if (once_in(6))
+            write_between();
+    }
+}
+
 static void stream_boundaries(void)
 {
     for (unsigned n = amount(4, 10); n > 0; n--) {
@@ -278,6 +297,7 @@ static const struct setting_bound setting_bounds[] = {
     {"x", 5, {0, 1, 4, 5, 255}, 1},
     {"y", 5, {0, 1, 2, 3, 255}, 1},
     {"write", 4, {0, 1, 2, 255}, 0},
+    {"own", 4, {0, 1, 2, 255}, 0},
 };
 
 static const char *const window_records[] = {
@@ -306,115 +326,92 @@ static const char *const span_records[] = {
     "0 111",   "511 0",   "3 9",     "111 511", "65534 65534",
 };
 
-/* Proper beginnings, and bytes of the record (docs/RECORD.md, "What is half
- * read") that are none: numbers beyond their bounds, none left to come, slots
- * that a case does not use, cases that there are not. */
-static const struct {
-    const char *part, *bytes;
-} half_records[] = {
-    {"half", "none"},
-    {"half", "1B"},
-    {"half", "1F"},
-    {"half", "1F 28"},
-    {"half", "1F 28 61"},
-    {"half", "1F 28 66"},
-    {"half", "1F 28 67"},
-    {"half", "1F 28 77"},
-    {"half", "1F 28 61 10 01 02 03 04"},
-    {"record 83", "09 00 00 00 00 00 00 00 00 00 00 00"},
-    {"half", "1F 28 61 11 01 02 03"},
-    {"record 83", "09 06 00 00 00 00 00 00 00 00 00 00"},
-    {"half", "1F 28 61 01"},
-    {"half", "1F 28 61 40"},
-    {"record 83", "09 FF 00 00 00 00 00 00 00 00 00 00"},
-    {"record 83", "04 01 00 00 00 00 00 00 00 00 00 00"},
-    {"half", "1F 28 66 11"},
-    {"record 83", "05 00 00 01 00 00 00 00 00 00 00 00"},
-    {"half", "1F 28 66 11 00"},
-    {"record 83", "0F 07 00 00 00 00 00 00 00 00 00 00"},
-    {"half", "1F 28 66 11 00 02"},
-    {"record 83", "0F 07 00 00 01 02 00 00 00 00 00 00"},
-    {"record 83", "10 07 00 01 58 02 00 00 00 00 00 00"},
-    {"half", "1F 28 66 11 03 00 01"},
-    {"record 83", "11 00 00 00 03 00 00 00 00 00 00 00"},
-    {"half", "1F 28 66 11 03 00 01 00"},
-    {"half", "1F 28 66 11 03 00 02 00"},
-    {"record 83", "11 00 00 00 03 00 03 00 00 00 00 00"},
-    {"record 83", "11 00 00 00 03 00 02 01 00 00 00 00"},
-    {"record 83", "11 01 00 00 03 00 02 00 00 00 00 00"},
-    {"half", "1F 28 66 11 03 00 02 00 01"},
-    {"record 83", "11 00 00 00 03 00 02 00 01 00 00 00"},
-    {"half", "1F 28 66 11 03 00 02 00 01 AA BB CC DD EE"},
-    {"record 83", "12 00 00 00 03 00 02 00 03 00 00 00"},
-    {"half", "1F 28 66 11 03 00 02 00 01 AA BB CC"},
-    {"half", "1F 28 67 03"},
-    {"record 83", "08 09 00 00 00 00 00 00 00 00 00 00"},
-    {"half", "1F 28 67 40"},
-    {"half", "1F 28 67 40 09"},
-    {"record 83", "14 01 01 00 00 00 00 00 00 00 00 00"},
-    {"half", "1F 28 77 01"},
-    {"record 83", "15 01 00 00 00 00 00 00 00 00 00 00"},
-    {"half", "1F 28 77 02"},
-    {"record 83", "17 00 00 00 00 00 00 00 00 00 00 00"},
-    {"half", "1F 28 77 02 01"},
-    {"half", "1F 28 77 02 04"},
-    {"record 83", "17 05 00 00 00 00 00 00 00 00 00 00"},
-    {"record 83", "17 02 01 00 00 00 00 00 00 00 00 00"},
-    {"half", "1F 28 77 02 02 01"},
-    {"record 83", "0F 02 00 00 00 00 00 00 00 00 00 00"},
-    {"half", "1F 28 77 02 02 01 FF FF FF FF FF FF FF"},
-    {"half", "1F 28 77 02 02 01 05 00 00 00 07 00 01"},
-    {"record 83", "10 05 05 01 05 00 00 00 07 00 00 00"},
-    {"half", "1F 28 77 10"},
-    {"record 83", "07 00 00 00 01 00 00 00 00 00 00 00"},
-    {"half", "1F 24"},
-    {"half", "1F 24 05"},
-    {"half", "1F 24 05 00 01"},
-    {"record 83", "0F 08 00 00 00 00 00 00 00 00 00 00"},
-    {"half", "1F 24 FF FF FF"},
-    {"record 83", "02 01 00 00 00 00 00 00 00 00 00 00"},
-    {"half", "1F 43"},
-    {"half", "1F 58"},
-    {"half", "1F 72"},
-    {"half", "1F 73"},
-    {"half", "1F 77"},
-    {"record 83", "08 06 01 00 00 00 00 00 00 00 00 00"},
-    {"record 83", "18 00 00 00 00 00 00 00 00 00 00 00"},
-    {"record 83", "01 40 00 00 00 00 00 00 00 00 00 00"},
-    {"half", "1B 52"},
-    {"record 83", "08 FF 00 00 00 00 00 00 00 00 00 00"},
-    {"half", "1B 74"},
-    {"half", "1B 25"},
-    {"record 83", "FF 00 00 00 00 00 00 00 00 00 00 00"},
-    {"half", "1B 3F"},
-    {"half", "1B 3F 01"},
-    {"record 83", "19 00 00 00 00 00 00 00 00 00 00 00"},
-    {"half", "1B 26"},
-    {"record 83", "0A 01 00 00 00 00 00 00 00 00 00 00"},
-    {"half", "1B 26 01"},
-    {"record 83", "0C 1F 00 00 00 00 00 00 00 00 00 00"},
-    {"half", "1B 26 01 20"},
-    {"half", "1B 26 01 FF"},
-    {"record 83", "0D 30 2F 00 00 00 00 00 00 00 00 00"},
-    {"half", "1B 26 01 30 30"},
-    {"half", "1B 26 01 30 31"},
-    {"half", "1B 26 01 30 31 05"},
-    {"record 83", "0E 30 31 00 00 00 00 00 00 00 00 00"},
-    {"half", "1B 26 01 30 31 07"},
-    {"half", "1B 26 01 30 31 05 01 02 03 04 05"},
-    {"half", "1B 26 01 30 31 05 01 02 03 04 05 07 01 02 03 04 05 06"},
-    {"record 83", "0E 31 31 08 00 00 00 00 00 00 00 00"},
-    {"half", "1B 26 01 FF FF 05 01 02 03 04"},
-    {"record 83", "0E FF FE 01 00 00 00 00 00 00 00 00"},
-    {"record 83", "0B 41 00 00 00 00 00 00 00 00 00 00"},
-    {"record 83", "03 01 00 00 00 00 00 00 00 00 00 00"},
-    {"record 83", "06 00 01 00 00 00 00 00 00 00 00 00"},
-    {"record 83", "13 01 00 00 00 00 00 00 00 00 00 00"},
-    {"record 83", "16 01 00 00 00 00 00 00 00 00 00 00"},
-    {"record 83", "0D 1F 30 00 00 00 00 00 00 00 00 00"},
+/* Beginnings of a command: proper ones, but a define whose first code has come
+ * is so only if that is stored. */
+static const char *const half_beginnings[] = {
+    "1B", "1F", "1F 28", "1F 28 61", "1F 28 66", "1F 28 67", "1F 28 77",
+    "1F 28 61 10 01 02 03 04", "1F 28 61 11 01 02 03", "1F 28 61 01",
+    "1F 28 61 40", "1F 28 66 11", "1F 28 66 11 00", "1F 28 66 11 00 02",
+    "1F 28 66 11 03 00 01", "1F 28 66 11 03 00 01 00",
+    "1F 28 66 11 03 00 02 00", "1F 28 66 11 03 00 02 00 01",
+    "1F 28 66 11 03 00 02 00 01 AA BB CC DD EE",
+    "1F 28 66 11 03 00 02 00 01 AA BB CC", "1F 28 67 03", "1F 28 67 40",
+    "1F 28 67 40 09", "1F 28 77 01", "1F 28 77 02", "1F 28 77 02 01",
+    "1F 28 77 02 04", "1F 28 77 02 02 01",
+    "1F 28 77 02 02 01 FF FF FF FF FF FF FF",
+    "1F 28 77 02 02 01 05 00 00 00 07 00 01", "1F 28 77 10", "1F 24",
+    "1F 24 05", "1F 24 05 00 01", "1F 24 FF FF FF", "1F 43", "1F 58",
+    "1F 72", "1F 73", "1F 77", "1B 52", "1B 74", "1B 25", "1B 3F",
+    "1B 3F 01", "1B 26", "1B 26 01", "1B 26 01 20", "1B 26 01 FF",
+    "1B 26 01 30 30", "1B 26 01 30 31", "1B 26 01 30 31 05",
+    "1B 26 01 30 31 07", "1B 26 01 30 31 05 01 02 03 04 05",
+    "1B 26 01 30 31 05 01 02 03 04 05 07 01 02 03 04 05 06",
+    "1B 26 01 FF FF 05 01 02 03 04",
 };
 
-enum { HALF_RECORDS = sizeof half_records / sizeof half_records[0] };
+/* Bytes of the record (docs/RECORD.md, "What is half read"), those that follow
+ * them 0, that are none: numbers beyond their bounds, none left to come, slots
+ * that a case does not use, cases that there are not. */
+static const char *const half_records[] = {
+    "09", "09 06", "09 FF", "04 01", "05 00 00 01", "0F 07",
+    "0F 07 00 00 00 01 02", "10 07 00 01 00 58 02", "11 00 00 00 00 03",
+    "11 00 00 00 00 03 00 03", "11 00 00 00 00 03 00 02 01",
+    "11 01 00 00 00 03 00 02", "11 00 00 00 00 03 00 02 00 01",
+    "12 00 00 00 00 03 00 02 00 03", "08 0A", "14 01 01", "15 01", "17",
+    "17 05", "17 02 01", "0F 02", "10 05 05 01 00 05 00 00 00 07",
+    "07 00 00 00 00 01", "0F 08", "02 01", "08 06 01", "1A", "01 40",
+    "08 FF", "FF", "1B", "0A 01", "0B 41", "03 01", "06 00 01",
+    "13 01", "16 01", "18 01", "18 00 00 00 01", "19 01 01",
+    "13 00 00 00 01", "01 00 00 00 00 00 00 00 00 00 00 00 00 05",
+    "12 00 00 00 00 03 00 02 00 00 00 00 00 00 00 01",
+};
+
+/* The same of a define that is half read, in and out: whether a code before
+ * the next one is stored decides too. */
+static const char *const define_records[] = {
+    "0C 1F", "0C 20", "0D 20 20 20", "0D FF FF FF", "0D 1F 1F 20",
+    "0D 31 30 32", "0D 30 33 32", "0D 30 30 32 01", "0D 30 31 32",
+    "0D 30 31 32 01", "0D 30 31 32 02", "0D 40 43 44", "0D 40 43 44 01",
+    "0D 41 43 44", "0D 41 43 44 01", "0D 41 51 51", "0D 41 52 52 01",
+    "0E 30 31 32 01 00 00 00 00 00 00 00 00 05 01 01",
+    "0E 40 42 42 01 00 00 00 00 00 00 00 00 07 02 01 02",
+    "0E 41 42 42 00 00 00 00 00 00 00 00 00 07 02 01 02",
+};
+
+/* And of its columns. */
+static const char *const column_records[] = {
+    "0D 30 30 30 00 01", "0D 30 30 30 00 00 00 00 00 00 00 00 00 05",
+    "0E 30 30 32 00 00 00 00 00 00 00 00 00",
+    "0E 30 30 32 00 00 00 00 00 00 00 00 00 05 00",
+    "0E 30 30 32 00 00 00 00 00 00 00 00 00 05 04 01 02 03 04",
+    "0E 30 30 32 00 00 00 00 00 00 00 00 00 05 05 01 02 03 04 05",
+    "0E 30 30 32 00 00 00 00 00 00 00 00 00 05 03 01 02 03 04",
+    "0E 30 30 32 00 00 00 00 00 00 00 00 00 05 04 01 02 03 04 00 01",
+    "0E 30 30 32 00 00 00 00 00 00 00 00 00 06 01 01",
+    "0E 30 30 32 00 00 00 00 00 00 00 00 00 07 00",
+    "0E 30 30 32 00 00 00 00 00 00 00 00 00 07 06 01 02 03 04 05 06",
+    "0E 30 30 32 00 00 00 00 00 00 00 00 00 07 07 01 02 03 04 05 06 07",
+    "0E 30 30 32 00 00 00 00 00 00 00 00 00 07 06 01 02 03 04 05 06 01",
+    "0E 30 30 32 00 00 00 00 00 00 00 00 00 08 01 01",
+    "0E 30 30 32 00 00 00 00 00 00 00 00 00 05 FF",
+    "0E 30 30 32 00 00 00 00 00 00 00 00 00 FF 01 01",
+    "0E 1F 1F 20 00 00 00 00 00 00 00 00 00 05 01 01",
+};
+
+/* Lines that store none of those codes, the first of them, or sixteen. */
+static const char *const stores[] = {
+    "# no download",
+    "spoil download 3 30 05 81 42",
+    "feed 1B 26 01 41 50 96*05",
+};
+
+/* A place of the downloads, in and out; 42h is stored in another. */
+static const char *const download_records[] = {
+    "20 05", "FF 07 01 02 03 04 05 06 07", "42 05", "1F 05",
+    "00 05", "00 00 00 00 00 00 00 00 01", "41 00", "41 04", "41 06",
+    "41 08", "41 FF", "41 05 01 02 03 04 05", "41 05 01 02 03 04 05 01",
+    "41 05 01 02 03 04 05 00 01", "41 07",
+};
 
 #define RECORD_OF(list) list[below(sizeof(list) / sizeof((list)[0]))]
 
@@ -467,19 +464,61 @@ static void spoil_a_span(void)
         puts("spoil span 0 none\nspoil span 1 2 5");
 }
 
-static void spoil_the_half(void)
+/* The bytes of the half-read command, those that follow them 0. */
+static void write_half_record(const char *record)
+{
+    printf("spoil half none\nspoil record %u %s\n", (unsigned)AT_HALF, record);
+}
+
+/* A few bytes more, mostly small ones. */
+static void write_more_bytes(void)
 {
     size_t at = length;
-    unsigned i = below(HALF_RECORDS);
-    printf("spoil %s %s\n", half_records[i].part, half_records[i].bytes);
-    if (once_in(2)) {
-        for (unsigned n = between(1, 10); n > 0; n--)
-            put(once_in(3) ? below(256) : below(8));
-        write_piece(at, length, true);
-    }
+    for (unsigned n = between(1, 10); n > 0; n--)
+        put(once_in(3) ? below(256) : below(8));
+    write_piece(at, length, true);
+}
+
+static void spoil_the_half(void)
+{
+    if (once_in(2))
+        write_half_record(RECORD_OF(half_records));
+    else
+        printf("spoil half %s\n", RECORD_OF(half_beginnings));
+    if (once_in(2))
+        write_more_bytes();
     write_each_call();
     if (!once_in(4))
         puts("spoil half none");
+}
+
+/* A half-read define, over downloads that make it good or bad. */
+static void spoil_the_define(void)
+{
+    if (once_in(3))
+        puts(RECORD_OF(stores));
+    write_half_record(once_in(3) ? RECORD_OF(column_records)
+                                 : RECORD_OF(define_records));
+    if (once_in(2))
+        write_more_bytes();
+    write_each_call();
+    if (!once_in(4))
+        puts("spoil half none");
+}
+
+static void spoil_a_download(void)
+{
+    unsigned place = below(16);
+    puts("spoil download 5 42 07");
+    printf("spoil download %u %s\n", place, RECORD_OF(download_records));
+    if (once_in(2)) {
+        size_t at = length;
+        put_download_command();
+        write_piece(at, length, once_in(12));
+    }
+    write_each_call();
+    if (!once_in(4))
+        printf("spoil download %u none\n", place);
 }
 
 /* Holding: the held window, the selected one, the saved one and settings. */
@@ -509,7 +548,7 @@ static void stream_spoiled(void)
     put_well_formed(amount(5, 30));
     write_piece(0, length, false);
     for (unsigned n = amount(2, 5); n > 0; n--)
-        switch (below(8)) {
+        switch (below(10)) {
         case 0:
             spoil_a_setting();
             break;
@@ -529,6 +568,12 @@ static void stream_spoiled(void)
         case 6:
             spoil_the_half();
             break;
+        case 7:
+            spoil_the_define();
+            break;
+        case 8:
+            spoil_a_download();
+            break;
         default:
             spoil_the_holding();
             break;
@@ -537,7 +582,7 @@ static void stream_spoiled(void)
 
 static void stream(void)
 {
-    unsigned n = below(100);
+    unsigned n = below(110);
     write_opening();
     if (n < 40)
         stream_well_formed();
@@ -551,8 +596,10 @@ static void stream(void)
         stream_boundaries();
     else if (n < 84)
         stream_lengths();
-    else
+    else if (n < 102)
         stream_spoiled();
+    else
+        stream_downloads();
     write_closing();
 }
 
@@ -560,44 +607,128 @@ static void stream(void)
  * Every bound, in and out, with no chance in it
  * --------------------------------------------------------------------- */
 
-/* A fresh panel with one field spoiled: every call that tests a state. */
+/* A fresh panel: what is spoiled comes next. */
+static void bound_begin(void)
+{
+    puts("new\nstart");
+}
+
+/* The same with window 1 held, for what differs then. */
+static void bound_begin_held(void)
+{
+    puts("new\nstart\nspoil window 1 20 0 30 2 1 1 2\nhold 1");
+}
+
+/* Every call that tests a state. */
+static void bound_end(void)
+{
+    puts("feed 41\nrefresh\nhold 1\nrelease\nsum");
+}
+
+static void bound_end_held(void)
+{
+    puts("feed 41\nrelease\nsum");
+}
+
 static void bound(const char *spoiled, const char *record)
 {
-    printf("new\nstart\nspoil %s %s\nfeed 41\nrefresh\nhold 1\nrelease\nsum\n", spoiled, record);
+    bound_begin();
+    printf("spoil %s %s\n", spoiled, record);
+    bound_end();
 }
 
-/* The same while window 1 is held, for what the release puts back. */
 static void bound_held(const char *spoiled, const char *record)
 {
-    printf("new\nstart\nspoil window 1 20 0 30 2 1 1 2\nhold 1\nspoil %s %s\nfeed 41\nrelease\nsum\n", spoiled, record);
+    bound_begin_held();
+    printf("spoil %s %s\n", spoiled, record);
+    bound_end_held();
 }
 
+#define COUNT_OF(list) (sizeof(list) / sizeof((list)[0]))
+
 #define BOUND_EACH(spoiled, list) \
-    for (size_t i = 0; i < sizeof(list) / sizeof((list)[0]); i++) \
+    for (size_t i = 0; i < COUNT_OF(list); i++) \
     bound(spoiled, (list)[i])
 
-static void bounds(void)
+static void bounds_of_settings(void)
 {
-    static const char *const numbers[] = {"0", "1", "2", "4", "5", "255"};
-    char spoiled[32], record[32];
-    puts("# generate bounds");
-    for (size_t i = 0; i < sizeof setting_bounds / sizeof setting_bounds[0]; i++)
+    char record[32];
+    for (size_t i = 0; i < COUNT_OF(setting_bounds); i++)
         for (unsigned j = 0; j < setting_bounds[i].count; j++) {
             snprintf(record, sizeof record, "%s %u", setting_bounds[i].key, setting_bounds[i].values[j]);
             bound("set", record);
             bound_held("saved", record);
         }
+}
+
+static void bounds_of_windows(void)
+{
+    char spoiled[32];
     for (unsigned k = 1; k <= 4; k += 3) {
         snprintf(spoiled, sizeof spoiled, "window %u", k);
         BOUND_EACH(spoiled, window_records);
     }
+}
+
+static void bound_half(const char *record)
+{
+    bound_begin();
+    write_half_record(record);
+    bound_end();
+}
+
+static void bounds_of_half(void)
+{
+    BOUND_EACH("half", half_beginnings);
+    for (size_t i = 0; i < COUNT_OF(half_records); i++)
+        bound_half(half_records[i]);
+    for (size_t i = 0; i < COUNT_OF(column_records); i++)
+        bound_half(column_records[i]);
+}
+
+/* Over each store, and while held over one. */
+static void bounds_of_defines(void)
+{
+    for (size_t i = 0; i < COUNT_OF(define_records); i++) {
+        for (size_t j = 0; j < COUNT_OF(stores); j++) {
+            bound_begin();
+            puts(stores[j]);
+            write_half_record(define_records[i]);
+            bound_end();
+        }
+        bound_begin_held();
+        puts(stores[1]);
+        write_half_record(define_records[i]);
+        bound_end_held();
+    }
+}
+
+static void bounds_of_downloads(void)
+{
+    for (unsigned place = 0; place < 16; place += 15)
+        for (size_t i = 0; i < COUNT_OF(download_records); i++) {
+            bound_begin();
+            puts("spoil download 5 42 07");
+            printf("spoil download %u %s\n", place, download_records[i]);
+            bound_end();
+        }
+}
+
+static void bounds(void)
+{
+    static const char *const numbers[] = {"0", "1", "2", "4", "5", "255"};
+    char record[32];
+    puts("# generate bounds");
+    bounds_of_settings();
+    bounds_of_windows();
     BOUND_EACH("base", base_records);
     BOUND_EACH("selected", numbers);
     BOUND_EACH("span 0", span_records);
     BOUND_EACH("span 1", span_records);
-    for (unsigned i = 0; i < HALF_RECORDS; i++)
-        bound(half_records[i].part, half_records[i].bytes);
-    for (size_t i = 0; i < sizeof numbers / sizeof numbers[0]; i++) {
+    bounds_of_half();
+    bounds_of_defines();
+    bounds_of_downloads();
+    for (size_t i = 0; i < COUNT_OF(numbers); i++) {
         snprintf(record, sizeof record, "%s 0", numbers[i]);
         bound_held("held", record);
         snprintf(record, sizeof record, "1 %s", numbers[i]);

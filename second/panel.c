@@ -2,8 +2,8 @@
  *
  * The words in quotes above the functions are document 01's, or those of the
  * order of document 02 named beside them. In order: the state and its bounds
- * (number 8), the reader, the range and the drawing, the moves, the commands
- * with their answers, the five calls. */
+ * (number 8), the reader, the range, the downloads, the drawing, the moves, the
+ * commands with their answers, the five calls. */
 #include "panel.h"
 
 #include <string.h>
@@ -27,7 +27,6 @@ enum {
     PHASE_DOWNLOAD_C1,
     PHASE_DOWNLOAD_C2,
     PHASE_DOWNLOAD_X,   /* the width of the next code */
-    PHASE_DOWNLOAD_DATA,
     PHASE_WINDOW_A,     /* 1Fh 28h 77h 02h: a */
     PHASE_WINDOW_B,
     PHASE_IMAGE_XL,     /* 1Fh 28h 66h 11h: x size, low byte */
@@ -35,6 +34,7 @@ enum {
     PHASE_IMAGE_YL,
     PHASE_IMAGE_YH,
     PHASE_IMAGE_G,
+    PHASE_DOWNLOAD_DATA, /* from here on a byte is kept when it arrives */
     PHASE_IMAGE_DATA,
     PHASES
 };
@@ -52,8 +52,8 @@ enum {
     COMMAND_INITIALISE,
     COMMAND_CHARSET,
     COMMAND_CODEPAGE,
-    COMMAND_DOWNLOAD_USE,
-    COMMAND_DOWNLOAD_DROP,
+    COMMAND_OWN,
+    COMMAND_ERASE,
     COMMAND_DOWNLOAD,
     COMMAND_MODE,
     COMMAND_CURSOR_SET,
@@ -80,8 +80,8 @@ enum {
 static const uint8_t parameter_bytes[COMMANDS] = {
     [COMMAND_CHARSET] = 1,       /* 1Bh 52h n */
     [COMMAND_CODEPAGE] = 1,      /* 1Bh 74h n */
-    [COMMAND_DOWNLOAD_USE] = 1,  /* 1Bh 25h n */
-    [COMMAND_DOWNLOAD_DROP] = 2, /* 1Bh 3Fh a c */
+    [COMMAND_OWN] = 1,           /* 1Bh 25h n */
+    [COMMAND_ERASE] = 2,         /* 1Bh 3Fh a c */
     [COMMAND_CURSOR_SET] = 4,    /* 1Fh 24h x16 y16 */
     [COMMAND_CURSOR_SHOWN] = 1,  /* 1Fh 43h n */
     [COMMAND_BRIGHTNESS] = 1,    /* 1Fh 58h n */
@@ -121,7 +121,8 @@ static bool is_codepage(unsigned n)
     return n <= 5 || (n >= 16 && n <= 19);
 }
 
-/* "43h n (0, 1)", "72h n (0, 1) reverse", "10h a (0, 1) write mode" */
+/* "43h n (0, 1)", "72h n (0, 1) reverse", "10h a (0, 1) write mode"; "The
+ * switch takes 0 or 1" (order 2) */
 static bool is_switch(unsigned n)
 {
     return n <= 1;
@@ -163,6 +164,18 @@ static bool is_y_enlarged(unsigned n)
     return n >= 1 && n <= 2;
 }
 
+/* "c1 below 20h" cancels; "a code of 20h or more" (order 2) */
+static bool is_code(unsigned n)
+{
+    return n >= 0x20;
+}
+
+/* "x other than 5 or 7" cancels; "a width not 5 or 7" (order 2) */
+static bool is_download_width(unsigned n)
+{
+    return n == 5 || n == 7;
+}
+
 /* "01h, 02h, 03h set MD1, MD2, MD3 of the current window" */
 static bool is_mode(unsigned n)
 {
@@ -201,7 +214,7 @@ static bool settings_sound(const second_settings *s)
            is_switch(s->reverse) && is_speed(s->speed) &&
            is_mixing(s->mixing) && is_w(s->w) &&
            is_x_enlarged(s->x_enlarged) && is_y_enlarged(s->y_enlarged) &&
-           is_switch(s->write_mode);
+           is_switch(s->write_mode) && is_switch(s->own);
 }
 
 /* "a cursor outside its window"; and the window's mode */
@@ -250,10 +263,65 @@ static bool holding_sound(const second_state *state)
                             settings_sound(&state->saved));
 }
 
+/* The place that has a code; SECOND_DOWNLOADS if none has. */
+static unsigned place_of(const second_state *state, uint8_t code)
+{
+    unsigned place = 0;
+    while (place < SECOND_DOWNLOADS && !(state->downloads[place].stored &&
+                                         state->downloads[place].code == code))
+        place++;
+    return place;
+}
+
+/* The first place that is free; SECOND_DOWNLOADS with "16 stored". */
+static unsigned free_place(const second_state *state)
+{
+    unsigned place = 0;
+    while (place < SECOND_DOWNLOADS && state->downloads[place].stored)
+        place++;
+    return place;
+}
+
+/* "a code twice or below 20h, a width not 5 or 7" (order 2) */
+static bool download_sound(const second_state *state, unsigned place)
+{
+    const second_download *d = &state->downloads[place];
+    return !d->stored || (is_code(d->code) && is_download_width(d->width) &&
+                          place_of(state, d->code) == place);
+}
+
+/* Is a code of the half-read define, "read to its last byte", not stored? */
+static bool lacks_a_code(const second_state *state)
+{
+    for (unsigned code = state->half.first; code < state->half.coming.code;
+         code++)
+        if (place_of(state, (uint8_t)code) == SECOND_DOWNLOADS)
+            return true;
+    return false;
+}
+
+/* The codes of a half-read define; and "outside a hold, a half-read define of
+ * which a code read to its last byte is not stored while fewer than 16 are, or
+ * whose note of a drop says other than that such a code is not stored"
+ * (order 2) */
+static bool codes_sound(const second_state *state)
+{
+    const second_half *h = &state->half;
+    if (!is_code(h->first) || h->coming.code < h->first ||
+        h->last < h->coming.code)
+        return false;
+    if (state->held)
+        return true;
+    if (!lacks_a_code(state))
+        return !h->dropped;
+    return h->dropped && free_place(state) == SECOND_DOWNLOADS;
+}
+
 /* "an impossible half-read command: one that is not a proper beginning of a
  * command by the reading rules" */
-static bool half_sound(const second_half *h)
+static bool half_sound(const second_state *state)
 {
+    const second_half *h = &state->half;
     switch (h->phase) {
     case PHASE_NONE:
     case PHASE_ESC:
@@ -278,12 +346,12 @@ static bool half_sound(const second_half *h)
     case PHASE_WINDOW_B:
         return h->window >= 1 && h->window <= SECOND_WINDOWS;
     case PHASE_DOWNLOAD_C2:
-        return h->code >= 0x20;
+        return is_code(h->first);
     case PHASE_DOWNLOAD_X:
-        return h->code >= 0x20 && h->code <= h->last;
+        return codes_sound(state);
     case PHASE_DOWNLOAD_DATA:
-        return h->code >= 0x20 && h->code <= h->last && h->left >= 1 &&
-               h->left <= 7;
+        return codes_sound(state) && is_download_width(h->coming.width) &&
+               h->got < h->coming.width;
     case PHASE_IMAGE_YL:
         return is_image_width(h->width);
     case PHASE_IMAGE_YH:
@@ -306,10 +374,13 @@ static bool state_sound(const second_state *state)
     for (unsigned row = 0; row < SECOND_ROWS; row++)
         if (!span_sound(&state->spans[row]))
             return false;
+    for (unsigned place = 0; place < SECOND_DOWNLOADS; place++)
+        if (!download_sound(state, place))
+            return false;
     return place_sound(&state->base, SECOND_COLUMNS, SECOND_ROWS) &&
            settings_sound(&state->settings) &&
            can_be_selected(state, state->selected) && holding_sound(state) &&
-           half_sound(&state->half);
+           half_sound(state);
 }
 
 /* ------------------------------------------------------------------------
@@ -415,9 +486,9 @@ static enum reading read_esc(second_half *h, uint8_t byte)
     case 0x74:
         return read_parameters(h, COMMAND_CODEPAGE);
     case 0x25:
-        return read_parameters(h, COMMAND_DOWNLOAD_USE);
+        return read_parameters(h, COMMAND_OWN);
     case 0x3F:
-        return read_parameters(h, COMMAND_DOWNLOAD_DROP);
+        return read_parameters(h, COMMAND_ERASE);
     case 0x26:
         return read_on(h, PHASE_DOWNLOAD_A);
     default:
@@ -565,39 +636,42 @@ static enum reading read_download_a(second_half *h, uint8_t byte)
 /* ".. c1 below 20h, .." */
 static enum reading read_download_c1(second_half *h, uint8_t byte)
 {
-    if (byte < 0x20)
+    if (!is_code(byte))
         return read_cancelled(h);
-    h->code = byte;
+    h->first = byte;
     return read_on(h, PHASE_DOWNLOAD_C2);
 }
 
 /* ".. c2 below c1, .." */
 static enum reading read_download_c2(second_half *h, uint8_t byte)
 {
-    if (byte < h->code)
+    if (byte < h->first)
         return read_cancelled(h);
     h->last = byte;
+    h->coming.code = h->first;
+    h->dropped = false;
     return read_on(h, PHASE_DOWNLOAD_X);
 }
 
 /* ".. x other than 5 or 7" */
 static enum reading read_download_x(second_half *h, uint8_t byte)
 {
-    if (byte != 5 && byte != 7)
+    if (!is_download_width(byte))
         return read_cancelled(h);
-    h->left = byte;
+    h->coming.width = byte;
+    h->got = 0;
     return read_on(h, PHASE_DOWNLOAD_DATA);
 }
 
 /* ".. then, for each code c1 to c2, a width x and x bytes" */
 static enum reading read_download_data(second_half *h)
 {
-    h->left--;
-    if (h->left > 0)
+    h->got++;
+    if (h->got < h->coming.width)
         return READ_ON;
-    if (h->code == h->last)
+    if (h->coming.code == h->last)
         return read_whole(h, COMMAND_DOWNLOAD);
-    h->code++;
+    h->coming.code++;
     return read_on(h, PHASE_DOWNLOAD_X);
 }
 
@@ -712,7 +786,8 @@ static enum reading read_byte(second_half *h, uint8_t byte)
  * --------------------------------------------------------------------- */
 
 /* "Initial: w = 1, enlargement 1 by 1, brightness 8, all other settings 0,
- * MD1, base window, cursor (0,0), no user window." */
+ * MD1, base window, cursor (0,0), no user window."; no download: "Initialise
+ * erases all." (order 2) */
 static void second_initial(second_state *state)
 {
     memset(state, 0, sizeof *state);
@@ -844,6 +919,42 @@ static void mark_inside(struct work *k, unsigned x, unsigned y,
 }
 
 /* ------------------------------------------------------------------------
+ * Downloads (order 2)
+ * --------------------------------------------------------------------- */
+
+/* "A code already stored is replaced. A new code with 16 stored is read and
+ * dropped"; "erased room is used again" */
+static void store_download(second_state *state)
+{
+    second_half *h = &state->half;
+    unsigned place = place_of(state, h->coming.code);
+    if (place == SECOND_DOWNLOADS)
+        place = free_place(state);
+    if (place == SECOND_DOWNLOADS) {
+        h->dropped = true;
+        return;
+    }
+    state->downloads[place] = h->coming;
+    state->downloads[place].stored = true;
+}
+
+/* "Each is stored when its last byte arrives." "While held, define and erase
+ * .. store or erase nothing" */
+static void take_download_byte(second_state *state, uint8_t byte)
+{
+    second_half *h = &state->half;
+    h->coming.columns[h->got] = byte;
+    if (h->got + 1 == h->coming.width && !state->held)
+        store_download(state);
+}
+
+/* Erase, its code stored. */
+static void erase_download(second_state *state)
+{
+    state->downloads[place_of(state, state->half.bytes[1])].stored = false;
+}
+
+/* ------------------------------------------------------------------------
  * Cells
  * --------------------------------------------------------------------- */
 
@@ -874,16 +985,44 @@ static uint8_t placed(uint8_t glyph_column, unsigned memory_row)
     return memory_row == 0 ? dots : dots >> 1;
 }
 
-/* "w = 0 puts one blank column right; w = 1 one on each side." The cell's
- * columns before enlargement; no glyph: the all-off cell. */
-static void cell_columns(const struct work *k, const uint8_t *glyph,
-                         uint8_t columns[7])
+/* A cell's columns before enlargement; with w = 0 the last is not drawn. */
+enum { CELL_COLUMNS = 7 };
+
+static const uint8_t all_off[CELL_COLUMNS];
+
+/* "w = 0 puts one blank column right; w = 1 one on each side." */
+static void glyph_cell(const struct work *k, const uint8_t *glyph,
+                       uint8_t cell[CELL_COLUMNS])
 {
-    memset(columns, 0, 7);
-    if (glyph != NULL)
-        for (unsigned i = 0; i < 5; i++)
-            columns[k->state->settings.w + i] =
-                placed(glyph[i], k->top + k->y);
+    memset(cell, 0, CELL_COLUMNS);
+    for (unsigned i = 0; i < 5; i++)
+        cell[k->state->settings.w + i] = placed(glyph[i], k->top + k->y);
+}
+
+/* "5 columns draw like a font glyph; 7 columns fill the cell without blanks,
+ * all 8 dots tall, the left 6 only when w = 0" (order 2) */
+static void download_cell(const struct work *k, const second_download *d,
+                          uint8_t cell[CELL_COLUMNS])
+{
+    if (d->width == 5)
+        glyph_cell(k, d->columns, cell);
+    else
+        memcpy(cell, d->columns, CELL_COLUMNS);
+}
+
+/* "5 columns for each code 20h to FFh, leftmost first"; with the switch on, a
+ * code's download if it is stored */
+static void character_cell(const struct work *k, uint8_t code,
+                           uint8_t cell[CELL_COLUMNS])
+{
+    if (k->state->settings.own) {
+        unsigned place = place_of(k->state, code);
+        if (place < SECOND_DOWNLOADS) {
+            download_cell(k, &k->state->downloads[place], cell);
+            return;
+        }
+    }
+    glyph_cell(k, k->font + 5 * (code - 0x20), cell);
 }
 
 /* The 8 dots of one row of a column enlarged twice: four dots, each twice. */
@@ -897,19 +1036,17 @@ static uint8_t doubled(uint8_t dots, unsigned row)
 
 /* "Enlargement repeats dots of the whole cell. .. Dots outside the range are
  * dropped." Written is "the cell inside the range". */
-static void draw(struct work *k, const uint8_t *glyph)
+static void draw(struct work *k, const uint8_t cell[CELL_COLUMNS])
 {
     const second_settings settings = k->state->settings;
     const unsigned L = k->L;
     const unsigned rows = k->y + L < k->H ? L : k->H - k->y;
     const unsigned end = k->x + k->c < k->W ? k->x + k->c : k->W;
-    uint8_t columns[7];
-    cell_columns(k, glyph, columns);
     for (unsigned r = 0; r < rows; r++) {
         uint8_t *row = byte_at(k, 0, k->y + r);
         unsigned x = k->x;
         for (unsigned i = 0; x < end; i++) {
-            uint8_t dots = L == 1 ? columns[i] : doubled(columns[i], r);
+            uint8_t dots = L == 1 ? cell[i] : doubled(cell[i], r);
             for (unsigned e = 0; e < settings.x_enlarged && x < end; e++) {
                 row[2 * x] = joined(&settings, row[2 * x], dots);
                 x++;
@@ -917,12 +1054,6 @@ static void draw(struct work *k, const uint8_t *glyph)
         }
     }
     mark_inside(k, k->x, k->y, k->c, L);
-}
-
-/* "5 columns for each code 20h to FFh, leftmost first" */
-static const uint8_t *glyph_of(const struct work *k, uint8_t code)
-{
-    return k->font + 5 * (code - 0x20);
 }
 
 /* ------------------------------------------------------------------------
@@ -997,12 +1128,14 @@ static void move_ht(struct work *k)
  * (reversed and mixed as any), HT, draw, HT. MD3: HT, draw, HT." */
 static void move_character(struct work *k, uint8_t code)
 {
+    uint8_t cell[CELL_COLUMNS];
     if (k->x + k->c > k->W) {
         if (k->place->mode != 3)
-            draw(k, NULL);
+            draw(k, all_off);
         move_ht(k);
     }
-    draw(k, glyph_of(k, code));
+    character_cell(k, code, cell);
+    draw(k, cell);
     move_ht(k);
 }
 
@@ -1085,14 +1218,11 @@ static void store_image_byte(second_state *state, uint8_t *memory,
  * Commands read whole: their answers
  * --------------------------------------------------------------------- */
 
-/* "14: not carried, read whole": "downloads, display actions, proportional
- * widths" */
+/* "14: not carried, read whole": "display actions, proportional widths"; "Rows
+ * 14 of document 01 for [the downloads'] codes fall away" (order 2) */
 static bool is_not_carried(const second_half *h)
 {
     switch (h->command) {
-    case COMMAND_DOWNLOAD_USE:
-    case COMMAND_DOWNLOAD_DROP:
-    case COMMAND_DOWNLOAD:
     case COMMAND_ACTION_01:
     case COMMAND_ACTION_10:
     case COMMAND_ACTION_11:
@@ -1106,7 +1236,7 @@ static bool is_not_carried(const second_half *h)
 }
 
 /* "While held, initialise, select, WINx, define or cancel, and write mode
- * are answered 15." */
+ * are answered 15."; of the downloads "define and erase" too (order 2) */
 static bool is_barred_while_held(const second_half *h)
 {
     switch (h->command) {
@@ -1115,6 +1245,8 @@ static bool is_barred_while_held(const second_half *h)
     case COMMAND_DEFINE:
     case COMMAND_CANCEL:
     case COMMAND_WRITE_MODE:
+    case COMMAND_DOWNLOAD:
+    case COMMAND_ERASE:
         return true;
     default:
         return false;
@@ -1147,7 +1279,10 @@ static bool is_in_domain(const second_state *state)
     case COMMAND_CURSOR_SHOWN:
     case COMMAND_REVERSE:
     case COMMAND_WRITE_MODE:
+    case COMMAND_OWN:
         return is_switch(p[0]);
+    case COMMAND_ERASE: /* "a of 1 and a code of 20h or more" (order 2) */
+        return p[0] == 1 && is_code(p[1]);
     case COMMAND_BRIGHTNESS:
         return is_brightness(p[0]);
     case COMMAND_SPEED:
@@ -1214,7 +1349,8 @@ static void set_cursor(second_state *state)
     place->y = (uint16_t)sixteen(state->half.bytes + 2);
 }
 
-/* The commands that only change a setting, the selection or a window. */
+/* The commands that only change a setting, the selection, a window or the
+ * downloads. */
 static void carry_out_setting(second_state *state)
 {
     const uint8_t *p = state->half.bytes;
@@ -1266,7 +1402,13 @@ static void carry_out_setting(second_state *state)
     case COMMAND_WRITE_MODE:
         settings->write_mode = p[0];
         break;
-    default: /* COMMAND_IMAGE: its bytes were stored as they came */
+    case COMMAND_OWN:
+        settings->own = p[0];
+        break;
+    case COMMAND_ERASE:
+        erase_download(state);
+        break;
+    default: /* COMMAND_IMAGE, COMMAND_DOWNLOAD: stored as their bytes came */
         break;
     }
 }
@@ -1305,8 +1447,22 @@ static unsigned answer_in_range(second_state *state, uint8_t *memory,
     return SECOND_CARRIED_OUT;
 }
 
+/* "a define read to its end answers 18 exactly if one of its codes was
+ * dropped" (order 2) */
+static bool has_dropped(const second_half *h)
+{
+    return h->command == COMMAND_DOWNLOAD && h->dropped;
+}
+
+/* "Erasing an absent code: 19, tested after 15 and 11." (order 2) */
+static bool erases_nothing(const second_state *state)
+{
+    return state->half.command == COMMAND_ERASE &&
+           place_of(state, state->half.bytes[1]) == SECOND_DOWNLOADS;
+}
+
 /* "Order for one command: 12 and 13 while reading, then 14, 15, 11, 17,
- * 16." */
+ * 16."; 18 and 19 after 15 and 11 */
 static unsigned answer_whole(second_state *state, uint8_t *memory,
                              const uint8_t *font)
 {
@@ -1321,6 +1477,10 @@ static unsigned answer_whole(second_state *state, uint8_t *memory,
         return SECOND_OUT_OF_DOMAIN;
     if (h->command == COMMAND_SELECT && !can_be_selected(state, h->bytes[0]))
         return SECOND_SELECT_UNDEFINED;
+    if (has_dropped(h))
+        return SECOND_DROPPED;
+    if (erases_nothing(state))
+        return SECOND_NOT_STORED;
     if (h->command == COMMAND_INITIALISE)
         initialise(state, memory);
     else
@@ -1328,12 +1488,21 @@ static unsigned answer_whole(second_state *state, uint8_t *memory,
     return SECOND_CARRIED_OUT;
 }
 
-/* The outcome of one byte, 9 to 17. */
+/* A byte that is kept when it arrives. */
+static void keep_byte(second_state *state, uint8_t *memory, uint8_t byte)
+{
+    if (state->half.phase == PHASE_DOWNLOAD_DATA)
+        take_download_byte(state, byte);
+    else
+        store_image_byte(state, memory, byte);
+}
+
+/* The outcome of one byte, 9 to 19. */
 static unsigned take_byte(second_state *state, uint8_t *memory,
                           const uint8_t *font, uint8_t byte)
 {
-    if (state->half.phase == PHASE_IMAGE_DATA)
-        store_image_byte(state, memory, byte);
+    if (state->half.phase >= PHASE_DOWNLOAD_DATA)
+        keep_byte(state, memory, byte);
     switch (read_byte(&state->half, byte)) {
     case READ_ON:
         return SECOND_UNFINISHED;
@@ -1367,7 +1536,8 @@ unsigned second_start(second_state *state, uint8_t *memory,
  * commands carried out, and commands answered 11 to 17. It also gives the
  * outcome of the piece's last byte: 9 when that byte finished nothing, when
  * the piece is empty or when the call is refused; 10 when it finished a
- * command that was carried out; else 11 to 17." */
+ * command that was carried out; else 11 to 17." "18 and 19 belong to the second
+ * count." (order 2) */
 unsigned second_feed(second_state *state, uint8_t *memory,
                      size_t memory_length, const uint8_t *font,
                      size_t font_length, const uint8_t *piece,

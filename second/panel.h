@@ -1,7 +1,7 @@
 /* The dot panel's command interpreter, the second program.
  *
- * Written from document 01 ("this paper" below) and order 1 of document 02
- * alone. Every call answers the number of its refusal, 0 if it is not refused.
+ * Written from document 01 ("this paper" below) and orders 1 and 2 of document
+ * 02 alone. Every call answers the number of its refusal, 0 if it is not refused.
  * A refused call changes nothing lent and nothing in the state, and every count
  * it gives back is 0.
  */
@@ -19,7 +19,9 @@ enum {
     SECOND_COLUMNS = 512,
     SECOND_ROWS = 2,
     SECOND_VISIBLE = 112,
-    SECOND_WINDOWS = 4
+    SECOND_WINDOWS = 4,
+    SECOND_DOWNLOADS = 16,
+    SECOND_DOWNLOAD_COLUMNS = 7 /* at most */
 };
 
 /* "Refused calls" */
@@ -45,7 +47,9 @@ enum {
     SECOND_NOT_CARRIED = 14,
     SECOND_BARRED = 15,
     SECOND_TOO_LARGE = 16,
-    SECOND_SELECT_UNDEFINED = 17
+    SECOND_SELECT_UNDEFINED = 17,
+    SECOND_DROPPED = 18,
+    SECOND_NOT_STORED = 19
 };
 
 /* "Each window has its own cursor and mode": counted from the window's top
@@ -75,7 +79,17 @@ typedef struct {
     uint8_t x_enlarged;   /* 1Fh 28h 67h 40h, its first parameter */
     uint8_t y_enlarged;   /* and its second */
     uint8_t write_mode;   /* 1Fh 28h 77h 10h */
+    uint8_t own;          /* 1Bh 25h: stored downloads are drawn */
 } second_settings;
+
+/* A place for a download; the other members mean nothing unless it is
+ * stored. */
+typedef struct {
+    bool stored;
+    uint8_t code;
+    uint8_t width; /* 5 or 7 columns, leftmost first */
+    uint8_t columns[SECOND_DOWNLOAD_COLUMNS];
+} second_download;
 
 /* "For each row a span holds the first and last column written since the
  * last refresh, or nothing." */
@@ -90,11 +104,13 @@ typedef struct {
 typedef struct {
     uint8_t phase;
     uint8_t command;         /* whose parameter bytes are gathered */
-    uint8_t got;             /* how many of them have arrived */
+    uint8_t got;             /* how many of them, or of a download's columns,
+                              * have arrived */
     uint8_t window;          /* define or cancel: a */
     uint8_t bytes[8];        /* the parameter bytes */
-    uint8_t code, last;      /* download: the code that is next, and c2 */
-    uint8_t left;            /* download: bytes of this code still to come */
+    uint8_t first, last;     /* download: c1 and c2 */
+    bool dropped;            /* download: a code before this one was dropped */
+    second_download coming;  /* download: this code's, without `stored` */
     uint16_t width, height;  /* image: x size and y size */
     uint16_t column, row;    /* image: the place of the next byte in it */
 } second_half;
@@ -110,6 +126,7 @@ typedef struct {
     second_settings saved;
     second_span spans[SECOND_ROWS];
     second_half half;
+    second_download downloads[SECOND_DOWNLOADS];
 } second_state;
 
 /* What a feed gives back beside its number. */

@@ -1,4 +1,4 @@
-/* The second program's state as docs/RECORD.md's record of 103 bytes, and
+/* The second program's state as docs/RECORD.md's record of 259 bytes, and
  * back. What is in quotes is that page's. The page's cases of a half-read
  * command meet panel.c's own phases and commands here, so that file is part of
  * this one. */
@@ -7,23 +7,8 @@
 #include "panel.c"
 
 /* ------------------------------------------------------------------------
- * Places
+ * Numbers
  * --------------------------------------------------------------------- */
-
-enum {
-    AT_SETTINGS = 0,
-    AT_WINDOWS = 11,
-    WINDOW_BYTES = 13,
-    AT_BASE = 63,
-    AT_SELECTED = 68,
-    AT_HELD = 69,
-    AT_HELD_WINDOW = 70,
-    AT_SAVED_SELECTED = 71,
-    AT_SAVED = 72,
-    AT_HALF = 83,
-    AT_SPANS = 95,
-    SPAN_BYTES = 4
-};
 
 /* "A 16-bit number is two bytes, low byte first." */
 static void put16(uint8_t *to, unsigned n)
@@ -37,51 +22,62 @@ static uint16_t get16(const uint8_t *from)
     return (uint16_t)sixteen(from);
 }
 
+static bool is_zero(const uint8_t *from, unsigned length)
+{
+    unsigned i = 0;
+    while (i < length && from[i] == 0)
+        i++;
+    return i == length;
+}
+
 /* ------------------------------------------------------------------------
- * Settings, windows, spans
+ * Settings, windows, spans, downloads
  * --------------------------------------------------------------------- */
 
 static void put_settings(uint8_t *to, const second_settings *s)
 {
-    to[0] = s->charset;
-    to[1] = s->codepage;
-    to[2] = s->cursor_shown;
-    to[3] = s->brightness;
-    to[4] = s->speed;
-    to[5] = s->w;
-    to[6] = s->write_mode;
-    to[7] = s->reverse;
-    to[8] = s->mixing;
-    to[9] = s->x_enlarged;
-    to[10] = s->y_enlarged;
+    to[SET_CHARSET] = s->charset;
+    to[SET_CODEPAGE] = s->codepage;
+    to[SET_CURSOR_SHOWN] = s->cursor_shown;
+    to[SET_BRIGHTNESS] = s->brightness;
+    to[SET_SPEED] = s->speed;
+    to[SET_W] = s->w;
+    to[SET_WRITE_MODE] = s->write_mode;
+    to[SET_OWN] = s->own;
+    to[SET_REVERSE] = s->reverse;
+    to[SET_MIXING] = s->mixing;
+    to[SET_X_ENLARGED] = s->x_enlarged;
+    to[SET_Y_ENLARGED] = s->y_enlarged;
 }
 
 static second_settings get_settings(const uint8_t *from)
 {
-    return (second_settings){.charset = from[0],
-                             .codepage = from[1],
-                             .cursor_shown = from[2],
-                             .brightness = from[3],
-                             .speed = from[4],
-                             .w = from[5],
-                             .write_mode = from[6],
-                             .reverse = from[7],
-                             .mixing = from[8],
-                             .x_enlarged = from[9],
-                             .y_enlarged = from[10]};
+    return (second_settings){.charset = from[SET_CHARSET],
+                             .codepage = from[SET_CODEPAGE],
+                             .cursor_shown = from[SET_CURSOR_SHOWN],
+                             .brightness = from[SET_BRIGHTNESS],
+                             .speed = from[SET_SPEED],
+                             .w = from[SET_W],
+                             .write_mode = from[SET_WRITE_MODE],
+                             .own = from[SET_OWN],
+                             .reverse = from[SET_REVERSE],
+                             .mixing = from[SET_MIXING],
+                             .x_enlarged = from[SET_X_ENLARGED],
+                             .y_enlarged = from[SET_Y_ENLARGED]};
 }
 
 static void put_place(uint8_t *to, const second_place *p)
 {
-    put16(to, p->x);
-    put16(to + 2, p->y);
-    to[4] = p->mode;
+    put16(to + PLACE_X, p->x);
+    put16(to + PLACE_Y, p->y);
+    to[PLACE_MODE] = p->mode;
 }
 
 static second_place get_place(const uint8_t *from)
 {
-    return (second_place){
-        .x = get16(from), .y = get16(from + 2), .mode = from[4]};
+    return (second_place){.x = get16(from + PLACE_X),
+                          .y = get16(from + PLACE_Y),
+                          .mode = from[PLACE_MODE]};
 }
 
 /* "A user window that is not defined is 13 zeros" */
@@ -89,22 +85,21 @@ static void put_window(uint8_t *to, const second_window *w)
 {
     if (!w->defined)
         return;
-    put16(to, w->left);
-    put16(to + 2, w->top);
-    put16(to + 4, w->width);
-    put16(to + 6, w->height);
-    put_place(to + 8, &w->place);
+    put16(to + WINDOW_LEFT, w->left);
+    put16(to + WINDOW_TOP, w->top);
+    put16(to + WINDOW_WIDTH, w->width);
+    put16(to + WINDOW_HEIGHT, w->height);
+    put_place(to + WINDOW_PLACE, &w->place);
 }
 
 static second_window get_window(const uint8_t *from)
 {
-    static const uint8_t zeros[WINDOW_BYTES];
-    return (second_window){.defined = memcmp(from, zeros, WINDOW_BYTES) != 0,
-                           .left = get16(from),
-                           .top = get16(from + 2),
-                           .width = get16(from + 4),
-                           .height = get16(from + 6),
-                           .place = get_place(from + 8)};
+    return (second_window){.defined = !is_zero(from, WINDOW_BYTES),
+                           .left = get16(from + WINDOW_LEFT),
+                           .top = get16(from + WINDOW_TOP),
+                           .width = get16(from + WINDOW_WIDTH),
+                           .height = get16(from + WINDOW_HEIGHT),
+                           .place = get_place(from + WINDOW_PLACE)};
 }
 
 /* "first column written since the last refresh", "the column after the last
@@ -113,25 +108,49 @@ static void put_span(uint8_t *to, const second_span *s)
 {
     if (!s->any)
         return;
-    put16(to, s->first);
-    put16(to + 2, s->last + 1u);
+    put16(to + SPAN_FIRST, s->first);
+    put16(to + SPAN_END, s->last + 1u);
 }
 
 static second_span get_span(const uint8_t *from)
 {
-    unsigned first = get16(from), end = get16(from + 2);
+    unsigned first = get16(from + SPAN_FIRST), end = get16(from + SPAN_END);
     return (second_span){.any = first != 0 || end != 0,
                          .first = (uint16_t)first,
                          .last = (uint16_t)(end - 1)};
+}
+
+/* "A place of the downloads is free, 9 zeros, or has a download."; "of five
+ * columns the last two bytes are 0" */
+static void put_download(uint8_t *to, const second_download *d)
+{
+    if (!d->stored)
+        return;
+    to[DOWNLOAD_CODE] = d->code;
+    to[DOWNLOAD_WIDTH] = d->width;
+    memcpy(to + DOWNLOAD_COLUMNS, d->columns,
+           d->width == 5 ? 5 : RECORD_COLUMNS);
+}
+
+static second_download get_download(const uint8_t *from)
+{
+    second_download d = {.stored = !is_zero(from, DOWNLOAD_BYTES),
+                         .code = from[DOWNLOAD_CODE],
+                         .width = from[DOWNLOAD_WIDTH]};
+    memcpy(d.columns, from + DOWNLOAD_COLUMNS, RECORD_COLUMNS);
+    return d;
 }
 
 /* ------------------------------------------------------------------------
  * "What is half read"
  * --------------------------------------------------------------------- */
 
-/* "the case .., three bytes a, b, c .., and four 16-bit numbers p, q, r, s" */
+/* "the case .., four bytes a, b, c, d .., four 16-bit numbers p, q, r, s ..,
+ * and .. how many [columns a download] has in all, how many have come, and
+ * [they]" */
 struct slots {
-    unsigned number, a, b, c, p, q, r, s;
+    unsigned number, a, b, c, d, p, q, r, s, in_all, come;
+    uint8_t columns[RECORD_COLUMNS];
 };
 
 /* The cases of phases that carry nothing; of no phase, none of the page's. */
@@ -149,6 +168,7 @@ static const uint8_t values[] = {
     COMMAND_CHARSET, COMMAND_CODEPAGE, COMMAND_CURSOR_SHOWN,
     COMMAND_BRIGHTNESS, COMMAND_REVERSE, COMMAND_SPEED,
     COMMAND_MIXING, COMMAND_W, COMMAND_WRITE_MODE,
+    COMMAND_OWN,
 };
 
 enum { VALUES = sizeof values };
@@ -185,6 +205,10 @@ static struct slots parameter_slots(const second_half *h)
         return (struct slots){.number = 20, .a = h->bytes[0]};
     case COMMAND_SELECT:
         return (struct slots){.number = 21};
+    case COMMAND_ERASE:
+        if (h->got == 0)
+            return (struct slots){.number = 24};
+        return (struct slots){.number = 25, .a = h->bytes[0]};
     default:
         for (unsigned i = 0; i < VALUES; i++)
             if (h->command == values[i])
@@ -195,18 +219,34 @@ static struct slots parameter_slots(const second_half *h)
     }
 }
 
+/* PHASE_DOWNLOAD_X and PHASE_DOWNLOAD_DATA; "those that have not come are 0" */
+static struct slots download_slots(const second_half *h)
+{
+    struct slots t = {.number = 13,
+                      .a = h->first,
+                      .b = h->coming.code,
+                      .c = h->last,
+                      .d = h->dropped};
+    if (h->phase == PHASE_DOWNLOAD_DATA) {
+        t.number = 14;
+        t.in_all = h->coming.width;
+        t.come = h->got;
+        memcpy(t.columns, h->coming.columns,
+               h->got < RECORD_COLUMNS ? h->got : RECORD_COLUMNS);
+    }
+    return t;
+}
+
 static struct slots slots_of(const second_half *h)
 {
     switch (h->phase) {
     case PHASE_PARAMETERS:
         return parameter_slots(h);
     case PHASE_DOWNLOAD_C2:
-        return (struct slots){.number = 12, .a = h->code};
+        return (struct slots){.number = 12, .a = h->first};
     case PHASE_DOWNLOAD_X:
-        return (struct slots){.number = 13, .a = h->code, .b = h->last};
     case PHASE_DOWNLOAD_DATA:
-        return (struct slots){
-            .number = 14, .a = h->code, .b = h->last, .c = h->left};
+        return download_slots(h);
     case PHASE_IMAGE_XL:
         return (struct slots){.number = 15, .a = WHICH_IMAGE_X};
     case PHASE_IMAGE_XH:
@@ -278,6 +318,21 @@ static second_half half_of_size(const struct slots *t)
                          .height = (uint16_t)t->c};
 }
 
+/* Cases 13 and 14. */
+static second_half half_of_download(const struct slots *t)
+{
+    second_half h = {.phase = t->number == 13 ? PHASE_DOWNLOAD_X
+                                              : PHASE_DOWNLOAD_DATA,
+                     .first = (uint8_t)t->a,
+                     .last = (uint8_t)t->c,
+                     .dropped = t->d != 0,
+                     .got = (uint8_t)t->come,
+                     .coming = {.code = (uint8_t)t->b,
+                                .width = (uint8_t)t->in_all}};
+    memcpy(h.coming.columns, t->columns, RECORD_COLUMNS);
+    return h;
+}
+
 static second_half half_of_bare(unsigned number)
 {
     for (unsigned phase = 0; phase < PHASES; phase++)
@@ -286,9 +341,16 @@ static second_half half_of_bare(unsigned number)
     return impossible();
 }
 
+/* A command of two parameters of which the first has come. */
+static second_half half_of_pair(unsigned command, unsigned first)
+{
+    second_half h = parameters(command, 1);
+    h.bytes[0] = (uint8_t)first;
+    return h;
+}
+
 static second_half half_of(const struct slots *t)
 {
-    second_half h;
     switch (t->number) {
     case 8:
         return t->a < VALUES ? parameters(values[t->a], 0) : impossible();
@@ -297,16 +359,10 @@ static second_half half_of(const struct slots *t)
                                       : impossible();
     case 12:
         return (second_half){.phase = PHASE_DOWNLOAD_C2,
-                             .code = (uint8_t)t->a};
+                             .first = (uint8_t)t->a};
     case 13:
-        return (second_half){.phase = PHASE_DOWNLOAD_X,
-                             .code = (uint8_t)t->a,
-                             .last = (uint8_t)t->b};
     case 14:
-        return (second_half){.phase = PHASE_DOWNLOAD_DATA,
-                             .code = (uint8_t)t->a,
-                             .last = (uint8_t)t->b,
-                             .left = (uint8_t)t->c};
+        return half_of_download(t);
     case 15:
     case 16:
         if (t->a > WHICH_IMAGE_Y)
@@ -325,14 +381,16 @@ static second_half half_of(const struct slots *t)
     case 19:
         return parameters(COMMAND_ENLARGE, 0);
     case 20:
-        h = parameters(COMMAND_ENLARGE, 1);
-        h.bytes[0] = (uint8_t)t->a;
-        return h;
+        return half_of_pair(COMMAND_ENLARGE, t->a);
     case 21:
         return parameters(COMMAND_SELECT, 0);
     case 23:
         return (second_half){.phase = PHASE_WINDOW_B,
                              .window = (uint8_t)t->a};
+    case 24:
+        return parameters(COMMAND_ERASE, 0);
+    case 25:
+        return half_of_pair(COMMAND_ERASE, t->a);
     default:
         return half_of_bare(t->number);
     }
@@ -341,26 +399,34 @@ static second_half half_of(const struct slots *t)
 static void put_half(uint8_t *to, const second_half *h)
 {
     const struct slots t = slots_of(h);
-    to[0] = (uint8_t)t.number;
-    to[1] = (uint8_t)t.a;
-    to[2] = (uint8_t)t.b;
-    to[3] = (uint8_t)t.c;
-    put16(to + 4, t.p);
-    put16(to + 6, t.q);
-    put16(to + 8, t.r);
-    put16(to + 10, t.s);
+    to[HALF_CASE] = (uint8_t)t.number;
+    to[HALF_A] = (uint8_t)t.a;
+    to[HALF_B] = (uint8_t)t.b;
+    to[HALF_C] = (uint8_t)t.c;
+    to[HALF_D] = (uint8_t)t.d;
+    put16(to + HALF_P, t.p);
+    put16(to + HALF_Q, t.q);
+    put16(to + HALF_R, t.r);
+    put16(to + HALF_S, t.s);
+    to[HALF_IN_ALL] = (uint8_t)t.in_all;
+    to[HALF_COME] = (uint8_t)t.come;
+    memcpy(to + HALF_COLUMNS, t.columns, RECORD_COLUMNS);
 }
 
 static second_half get_half(const uint8_t *from)
 {
-    const struct slots t = {.number = from[0],
-                            .a = from[1],
-                            .b = from[2],
-                            .c = from[3],
-                            .p = get16(from + 4),
-                            .q = get16(from + 6),
-                            .r = get16(from + 8),
-                            .s = get16(from + 10)};
+    struct slots t = {.number = from[HALF_CASE],
+                      .a = from[HALF_A],
+                      .b = from[HALF_B],
+                      .c = from[HALF_C],
+                      .d = from[HALF_D],
+                      .p = get16(from + HALF_P),
+                      .q = get16(from + HALF_Q),
+                      .r = get16(from + HALF_R),
+                      .s = get16(from + HALF_S),
+                      .in_all = from[HALF_IN_ALL],
+                      .come = from[HALF_COME]};
+    memcpy(t.columns, from + HALF_COLUMNS, RECORD_COLUMNS);
     return half_of(&t);
 }
 
@@ -386,6 +452,9 @@ void record_of(const second_state *state, uint8_t record[RECORD_BYTES])
     put_half(record + AT_HALF, &state->half);
     for (unsigned row = 0; row < SECOND_ROWS; row++)
         put_span(record + AT_SPANS + SPAN_BYTES * row, &state->spans[row]);
+    for (unsigned place = 0; place < SECOND_DOWNLOADS; place++)
+        put_download(record + AT_DOWNLOADS + DOWNLOAD_BYTES * place,
+                     &state->downloads[place]);
 }
 
 /* "the bytes are read by their places, the state is encoded again, and where
@@ -407,6 +476,9 @@ void state_of(const uint8_t record[RECORD_BYTES], second_state *state)
     state->half = get_half(record + AT_HALF);
     for (unsigned row = 0; row < SECOND_ROWS; row++)
         state->spans[row] = get_span(record + AT_SPANS + SPAN_BYTES * row);
+    for (unsigned place = 0; place < SECOND_DOWNLOADS; place++)
+        state->downloads[place] =
+            get_download(record + AT_DOWNLOADS + DOWNLOAD_BYTES * place);
     record_of(state, again);
     if (memcmp(again, record, RECORD_BYTES) != 0)
         state->half = impossible();

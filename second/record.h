@@ -1,11 +1,10 @@
-/* The second program's state as docs/RECORD.md's record of 103 bytes, and
+/* The second program's state as docs/RECORD.md's record of 259 bytes, and
  * back. Written from that page. */
 #ifndef SECOND_RECORD_H
 #define SECOND_RECORD_H
 
+#include "../play/places.h"
 #include "panel.h"
-
-enum { RECORD_BYTES = 103 };
 
 /* The record of a state. Members of the state that mean nothing
  * (second/NOTES.md, choice 40) are not looked at. */

@@ -79,7 +79,7 @@ static struct {
     struct rectangle windows[5]; /* 0 is the base */
     unsigned selected;
     bool held;
-    unsigned w, x_enlarged, y_enlarged, write_mode;
+    unsigned w, x_enlarged, y_enlarged, write_mode, own;
 } belief;
 
 static void believe_initial(void)
@@ -107,8 +107,20 @@ static void put16(unsigned n)
  * Well-formed commands
  * --------------------------------------------------------------------- */
 
+/* The codes that are downloaded: few, so that they are met again, and more
+ * than are stored. */
+enum { OWN_FIRST = 0x41, OWN_CODES = 20, OWN_STORED = 16 };
+
+static unsigned some_own_code(void)
+{
+    return once_in(16) ? ONE_OF(0x20, 0xFF)
+                       : between(OWN_FIRST, OWN_FIRST + OWN_CODES - 1);
+}
+
 static unsigned some_character(void)
 {
+    if (belief.own == 1 && once_in(2))
+        return some_own_code();
     return once_in(8) ? between(0x20, 0xFF) : between(0x21, 0x7E);
 }
 
@@ -355,20 +367,123 @@ static void put_some_image(void)
         put_image(between(1, 9), height);
 }
 
-static void put_download(void)
+static void put_own(unsigned n)
 {
-    unsigned c1 = between(0x20, 0xFF);
-    unsigned c2 = c1 + below(3) < 0xFF ? c1 + below(2) : c1;
+    put(0x1B);
+    put(0x25);
+    put(n);
+    if (n < 2)
+        belief.own = n;
+}
+
+static void put_some_own(void)
+{
+    put_own(once_in(8) ? ONE_OF(2, 255) : once_in(3) ? 0 : 1);
+}
+
+static void put_erase(void)
+{
+    put(0x1B);
+    put(0x3F);
+    put(once_in(12) ? ONE_OF(0, 2, 255) : 1);
+    put(once_in(12) ? below(0x20) : some_own_code());
+}
+
+/* A define's bytes before its first code's. */
+static void put_download_head(unsigned c1, unsigned c2)
+{
     put(0x1B);
     put(0x26);
     put(1);
     put(c1);
     put(c2);
-    for (unsigned code = c1; code <= c2; code++) {
-        unsigned x = ONE_OF(5, 7);
-        put(x);
-        for (unsigned i = 0; i < x; i++)
-            put(below(256));
+}
+
+/* One code's width and columns. */
+static void put_picture(void)
+{
+    unsigned width = ONE_OF(5, 5, 7);
+    put(width);
+    for (unsigned i = 0; i < width; i++)
+        put(below(256));
+}
+
+/* A define of few codes. */
+static void put_download(void)
+{
+    unsigned c1 = some_own_code();
+    unsigned c2 = c1 + ONE_OF(0, 0, 0, 1, 2);
+    if (c2 > 0xFF)
+        c2 = 0xFF;
+    put_download_head(c1, c2);
+    for (unsigned code = c1; code <= c2; code++)
+        put_picture();
+}
+
+/* Sixteen codes. */
+static void put_full_store(void)
+{
+    unsigned c1 = OWN_FIRST + below(OWN_CODES - OWN_STORED + 1);
+    put_download_head(c1, c1 + OWN_STORED - 1);
+    for (unsigned i = 0; i < OWN_STORED; i++)
+        put_picture();
+}
+
+/* A define that is cancelled: at a, c1, c2, or at a width, the codes before
+ * which stay. */
+static void put_cancelled_download(void)
+{
+    unsigned c1 = some_own_code();
+    put(0x1B);
+    put(0x26);
+    switch (below(8)) {
+    case 0:
+        put(ONE_OF(0, 2, 255));
+        return;
+    case 1:
+        put(1);
+        put(below(0x20));
+        return;
+    case 2:
+        put(1);
+        put(c1);
+        put(c1 - 1);
+        return;
+    default:
+        put(1);
+        put(c1);
+        put(0xFF);
+        for (unsigned n = c1 < 0xFD ? below(3) : 0; n > 0; n--)
+            put_picture();
+        put(ONE_OF(0, 4, 6, 8, 255));
+        return;
+    }
+}
+
+/* What has to do with downloads. */
+static void put_download_command(void)
+{
+    switch (below(10)) {
+    case 0:
+    case 1:
+    case 2:
+    case 3:
+        put_download();
+        break;
+    case 4:
+    case 5:
+        put_erase();
+        break;
+    case 6:
+        put_some_own();
+        break;
+    case 7:
+        put_cancelled_download();
+        break;
+    default:
+        for (unsigned n = between(1, 4); n > 0; n--)
+            put(some_own_code());
+        break;
     }
 }
 
@@ -381,29 +496,6 @@ static void put_action(void)
     put((const unsigned[]){0x01, 0x10, 0x11, 0x40}[i]);
     for (unsigned n = (const unsigned[]){1, 5, 4, 1}[i]; n > 0; n--)
         put(below(256));
-}
-
-static void put_not_carried(void)
-{
-    switch (below(4)) {
-    case 0:
-        put_download();
-        break;
-    case 1:
-        put_action();
-        break;
-    case 2:
-        put(0x1B);
-        put(0x25);
-        put(below(3));
-        break;
-    default:
-        put(0x1B);
-        put(0x3F);
-        put(1);
-        put(below(256));
-        break;
-    }
 }
 
 static void put_initialise(void)
@@ -446,7 +538,7 @@ static void put_unknown(void)
 
 static void put_command(void)
 {
-    unsigned n = below(100);
+    unsigned n = below(106);
     if (n < 26)
         put_text();
     else if (n < 38)
@@ -478,9 +570,11 @@ static void put_command(void)
     else if (n < 97)
         put_kept();
     else if (n < 98)
-        put_not_carried();
+        put_action();
     else if (n < 99)
         put_unknown();
+    else if (n < 105)
+        put_download_command();
     else if (once_in(2))
         put_initialise();
 }
@@ -500,6 +594,8 @@ static void put_opening(void)
         put_enlarge();
     if (once_in(3))
         put_w();
+    if (once_in(4))
+        put_some_own();
 }
 
 static void put_well_formed(unsigned least)
@@ -524,6 +620,8 @@ struct boundary {
 static const struct boundary boundaries[] = {
     {"\x1B\x52", 4, {0, 13, 14, 255}},
     {"\x1B\x74", 8, {0, 5, 6, 15, 16, 19, 20, 255}},
+    {"\x1B\x25", 4, {0, 1, 2, 255}},
+    {"\x1B\x3F\x01", 5, {0, 31, 32, 65, 255}},
     {"\x1F\x43", 4, {0, 1, 2, 255}},
     {"\x1F\x58", 5, {0, 1, 8, 9, 255}},
     {"\x1F\x72", 4, {0, 1, 2, 255}},
