@@ -41,6 +41,9 @@ module _ (ds : List ℕ) where
       by-test (λ t. cond t (place ds c) (place ds 0) ≤ place ds c) (isStored ds c) (λ e. omega arith)
       (λ e. omega (arith, ltb-false (place ds c) (placesIn ds) e, place-le ds 0))
 
+  pub for-places : (c : ℕ) → placeFor ds c ≤ placesIn ds
+  for-places c = omega (arith, for-le c, place-le ds c)
+
   pub for-stored : (c : ℕ) → place ds c < placesIn ds → placeFor ds c ≡ place ds c
   unfolding placeFor
   for-stored c h = rw (lt-ltb (place ds c) (placesIn ds) h)
