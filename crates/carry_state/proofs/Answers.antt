@@ -1,6 +1,7 @@
--- What a command is answered, from the tests of the papers' order: 14, 15, 11, 17, 16, 19, or carried out. Assumes nothing.
-use mathlib.Core.Path.{_≡_, sym, ap, _∙_}
-use mathlib.Core.Bool.{true, false, _&&_}
+-- What a command is answered, from the tests of the papers' order: 14, 15, 11, 17, 16, 19, or carried out; and what it
+-- does to the downloads. Assumes nothing.
+use mathlib.Core.Path.{_≡_, refl, sym, ap, _∙_}
+use mathlib.Core.Bool.{Bool, true, false, cond, _&&_}
 use mathlib.Core.List.{[]}
 use Rattle.paper.specs.declared.Module.{Module}
 use Rattle.paper.specs.declared.Command.{Command}
@@ -8,7 +9,8 @@ use Rattle.paper.specs.declared.Outcome.{Outcome}
 use Rattle.paper.specs.declared.Outcome.the-variants.{OutOfDomain, NotCarried, WindowHeld, TooLarge, NotDefined, NotStored}
 use Rattle.paper.specs.declared.State.{State}
 use Rattle.paper.specs.Downloads.{Faces}
-use Rattle.paper.specs.Carry.{Meaning, means, askedOf, isHeld, carriedOut, answers, commandOf}
+use Rattle.paper.specs.Numbers.{isCarried}
+use Rattle.paper.specs.Carry.{Meaning, means, askedOf, isHeld, carriedOut, answers, commandOf, leaves, commandStore}
 use Rattle.laws_state.proofs.Cases.{Allowed}
 use Rattle.carry_state.specs.declared.Done.{Done}
 use Rattle.carry_state.specs.Says.{Says, done}
@@ -56,6 +58,27 @@ module _ (g : Module) (font : Faces) (s : State) (c : Command) where
   pub is-10 : Allowed g (font .store) s c → commandOf g font s c ≡ carriedOut g font s c
   unfolding commandOf
   is-10 a = rw (a .carried, a .owner, a .domain, a .defined, a .room, a .stored)
+
+  -- ---- the downloads afterwards
+
+  -- any answer but 10 leaves them alone
+  pub store-answered : {o : Outcome} → commandOf g font s c ≡ answers s o → isCarried o ≡ false → font .store ≡ commandStore g font s c
+  unfolding commandStore
+  store-answered e h = rw (e, h)
+
+  -- and so does a command that leaves them alone when it is carried out
+  pub store-same : leaves c (font .store) ≡ font .store → font .store ≡ commandStore g font s c
+  unfolding commandStore
+  store-same e = go (isCarried (commandOf g font s c .outcome)) where
+    go : (t : Bool) → font .store ≡ cond t (leaves c (font .store)) (font .store)
+    go true = sym e
+    go false = refl
+
+  -- a command that is carried out
+  pub store-carried : commandOf g font s c ≡ carriedOut g font s c → isCarried (carriedOut g font s c .outcome) ≡ true
+      → leaves c (font .store) ≡ commandStore g font s c
+  unfolding commandStore
+  store-carried e h = rw (e, h)
 
 -- what ends as its meaning does says what it means
 pub says : {r : Done} {t : Meaning} {s : State} {o : Outcome} → r ≡ done s o → t ≡ means s o [] → Says r t

@@ -12,17 +12,15 @@ use paper::Outcome;
 use paper::Reading;
 use paper::State;
 ghost use mathlib.Core.Path.{_≡_};
-ghost use mathlib.Core.Bool.{cond, not, _&&_, _||_};
 ghost use mathlib.Core.List.{List};
 ghost use Prim.Native.Nat.{ℕ};
-ghost use Rattle.paper.specs.Downloads.{isDropped, putIn, faces};
-ghost use Rattle.paper.specs.Carry.{isHeld, defineAnswer};
-ghost use Rattle.carry_store.specs.Stores.{StoresCommand, StoresReading};
+ghost use Rattle.paper.specs.Downloads.{faces};
+ghost use Rattle.paper.specs.Carry.{isHeld};
+ghost use Rattle.carry_store.specs.Stores.{StoresCommand, StoresReading, notedIf, answerIf, storedIf};
 
 // Stores a download that has come whole, and gives its define's note of a drop. While held nothing is stored, and nothing dropped.
 fn store_one(store: &mut [u8], held: bool, batch: Batch, columns: Columns) -> bool
-    ensures { λ r. ⌜ (r ≡ (batch .dropped || (not held && isDropped (now (store .entry)) (batch .code))))
-        × (now (store .exit) ≡ cond held (now (store .entry)) (putIn (now (store .entry)) (batch .code) columns)) ⌝ }
+    ensures { λ r. ⌜ (r ≡ notedIf held (now (store .entry)) batch) × (now (store .exit) ≡ storedIf held (now (store .entry)) batch columns) ⌝ }
 {
     let noted = batch.dropped;
     if held {
@@ -36,7 +34,7 @@ fn store_one(store: &mut [u8], held: bool, batch: Batch, columns: Columns) -> bo
 
 // What a define read to its end is answered.
 fn define_answer(held: bool, dropped: bool) -> Outcome
-    ensures { λ r. ⌜ r ≡ cond held Outcome.WindowHeld (cond dropped Outcome.Dropped Outcome.Carried) ⌝ }
+    ensures { λ r. ⌜ r ≡ answerIf held dropped ⌝ }
 {
     if held {
         return Outcome::WindowHeld;
