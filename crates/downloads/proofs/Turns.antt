@@ -1,15 +1,15 @@
 -- The loops that write: a place byte by byte, and zeros. Assumes nothing.
 use mathlib.Core.Path.{_≡_, refl, sym, ap, _∙_}
-use mathlib.Core.Bool.{Bool, true, false, cond, _&&_, and-false}
+use mathlib.Core.Bool.{Bool, true, cond, _&&_, and-false}
 use mathlib.Core.List.{List}
 use Prim.Native.Nat.{ℕ, _+_, _-_, _*_, _/_, _%_, _≤_, _<_, min}
 use native.Mathlib.Omega.{arith}
-use lib.ListN.{length, getD, set, replicate, length-set, getD-replicate, length-replicate}
+use lib.ListN.{length, getD, set, length-set, getD-replicate, length-replicate}
 use lib.Seq.{getD-set-same, getD-set-other, ext-getD}
 use lib.Dec.{eqb, ltb}
 use borrow.Author.Tests.{lt-ltb, le-ltb, eq-eqb, ne-eqb}
 use Rattle.paper.specs.Panel.{each}
-use Rattle.paper.specs.Downloads.{placeLength, placesIn, withPlace, allErased}
+use Rattle.paper.specs.Downloads.{placeLength, withPlace, allErased}
 use Rattle.laws_memory.proofs.Tests.{lt-cases, eq-cases}
 use Rattle.laws_memory.proofs.Each.{length-each, getD-each, each-by, each-same}
 

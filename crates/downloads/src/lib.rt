@@ -6,7 +6,7 @@ ghost use mathlib.Core.Bool.{cond};
 ghost use mathlib.Core.List.{[]};
 ghost use Prim.Native.Nat.{_≤_, min};
 ghost use lib.Dec.{eqb};
-ghost use Rattle.paper.specs.Downloads.{placesIn, place, isStored, withPlace, downloadBytes, freeBytes, placeFor, isDropped, putIn, erased, allErased};
+ghost use Rattle.paper.specs.Downloads.{placesIn, place, isStored, withPlace, downloadBytes, placeFor, isDropped, putIn, erased, allErased};
 
 // ---- where a code is
 

@@ -1,20 +1,24 @@
 -- Accepted downloads: what each place holds, and which stay accepted when another place is written. Assumes nothing.
 use mathlib.Core.Path.{_≡_, refl, sym, ap, _∙_}
-use mathlib.Core.Bool.{Bool, true, false, cond, _&&_, _||_, or-true}
+use mathlib.Core.Bool.{true, cond, _&&_, or-true}
 use mathlib.Core.List.{List}
 use mathlib.Core.Logic.{_⊎_, inl, inr, ⊎-elim}
-use Prim.Native.Nat.{ℕ, _+_, _*_, _/_, _≤_, _<_}
+use Prim.Native.Nat.{ℕ, _+_, _*_, _≤_, _<_}
 use native.Mathlib.Nat.{add-zero, add-assoc}
 use native.Mathlib.Omega.{arith}
 use lib.ListN.{length, getD}
 use lib.Dec.{eqb, leb}
 use borrow.Author.Tests.{leb-true, eqb-true, eq-eqb}
 use Rattle.paper.specs.Panel.{bytesFrom}
-use Rattle.paper.specs.Downloads.{placeLength, storeLength, placesIn, codeAt, widthAt, columnAt, place, withPlace, ownGlyph}
-use Rattle.paper.specs.Bounds.{allBelow, isFree, downloadOk, placeOk, storeOk}
+use Rattle.paper.specs.Downloads.{placeLength, storeLength, codeAt, widthAt, place, withPlace, ownGlyph}
+use Rattle.paper.specs.Bounds.{isFree, downloadOk, placeOk, storeOk}
 use Rattle.laws_bytes.proofs.Tests.{both-of}
 use Rattle.laws_downloads.proofs.Tests.{by-test, either-of, below-at, below-all, below-same}
 use Rattle.laws_downloads.proofs.Written.{with-other, place-with-other, bytes-same}
+
+-- a download has no more columns than its place has room for
+pub columns-le : (w : ℕ) → cond (eqb w 5) 5 7 ≤ 7
+columns-le w = by-test (λ t. cond t 5 7 ≤ 7) (eqb w 5) (λ e. omega arith) (λ e. omega arith)
 
 -- ---- two stores that have the same bytes in a place
 
@@ -40,18 +44,12 @@ module _ (ds es : List ℕ) (k : ℕ) (same : Same ds es k) where
 
   pub glyph-of : ownGlyph es k ≡ ownGlyph ds k
   glyph-of =
-      ap (λ (w : ℕ). bytesFrom (columns w) (placeLength * k + 2) es) (same 1 (omega arith))
-      ∙ bytes-same (columns (widthAt ds k)) es ds (placeLength * k + 2) (placeLength * k + 2)
+      ap (λ (w : ℕ). bytesFrom (cond (eqb w 5) 5 7) (placeLength * k + 2) es) (same 1 (omega arith))
+      ∙ bytes-same (cond (eqb (widthAt ds k) 5) 5 7) es ds (placeLength * k + 2) (placeLength * k + 2)
       (λ r l.
       ap (λ (a : ℕ). getD es a 0) (add-assoc (placeLength * k) 2 r)
-      ∙ same (2 + r) (omega (arith, few (widthAt ds k)))
+      ∙ same (2 + r) (omega (arith, columns-le (widthAt ds k)))
       ∙ ap (λ (a : ℕ). getD ds a 0) (sym (add-assoc (placeLength * k) 2 r)))
-    where
-      columns : ℕ → ℕ
-      columns w = cond (eqb w 5) 5 7
-
-      few : (w : ℕ) → cond (eqb w 5) 5 7 ≤ 7
-      few w = by-test (λ t. cond t 5 7 ≤ 7) (eqb w 5) (λ e. omega arith) (λ e. omega arith)
 
 -- ---- the parts of the test
 
@@ -59,7 +57,7 @@ pub store-length : (ds : List ℕ) → storeOk ds ≡ true → length ds ≡ sto
 unfolding storeOk
 store-length ds ok = eqb-true (length ds) storeLength (both-of (eqb (length ds) storeLength) _ ok .0)
 
-store-place : (ds : List ℕ) → storeOk ds ≡ true → (k : ℕ) → k < 16 → placeOk ds k ≡ true
+pub store-place : (ds : List ℕ) → storeOk ds ≡ true → (k : ℕ) → k < 16 → placeOk ds k ≡ true
 unfolding storeOk
 store-place ds ok = below-at (placeOk ds) 16 (both-of (eqb (length ds) storeLength) _ ok .1)
 
@@ -73,7 +71,7 @@ free-code ds k h =
     ap (λ (a : ℕ). getD ds a 0) (sym (add-zero (placeLength * k)))
     ∙ eqb-true _ 0 (below-at (λ r. eqb (getD ds (placeLength * k + r) 0) 0) placeLength h 0 (omega arith))
 
-download-code : (ds : List ℕ) (k : ℕ) → downloadOk ds k ≡ true → 0x20 ≤ codeAt ds k
+pub download-code : (ds : List ℕ) (k : ℕ) → downloadOk ds k ≡ true → 0x20 ≤ codeAt ds k
 unfolding downloadOk
 download-code ds k h = leb-true 0x20 (codeAt ds k) (both-of (leb 0x20 (codeAt ds k)) _ h .0)
 
@@ -89,7 +87,7 @@ place-taken ds k h e = rw (h, eq-eqb (place ds (codeAt ds k)) k e, or-true)
 
 module _ (ds : List ℕ) (ok : storeOk ds ≡ true) where
   -- a place is free, or holds a download of which it is the first place
-  held : (k : ℕ) → k < 16
+  pub held : (k : ℕ) → k < 16
       → (isFree ds k ≡ true) ⊎ ((downloadOk ds k ≡ true) × (place ds (codeAt ds k) ≡ k))
   unfolding placeOk
   held k l =

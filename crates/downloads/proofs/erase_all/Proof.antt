@@ -1,5 +1,4 @@
 -- `downloads::erase_all` meets its contract. The loop's invariant: the bytes so far are 0. Assumes nothing.
-use mathlib.Core.Path.{_≡_}
 use Prim.Native.Nat.{_≤_, _-_}
 use native.Mathlib.Omega.{arith}
 use lib.ListN.{length}

@@ -1,5 +1,4 @@
 -- `downloads::is_stored` meets its contract. Assumes nothing.
-use borrow.Author.Needs.{needs}
 use Rattle.downloads.proofs.is_stored.Statement.{statement}
 use Rattle.downloads.proofs.is_stored.Tie as tie
 
