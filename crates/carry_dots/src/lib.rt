@@ -104,8 +104,9 @@ pub fn clear(g: Module, mem: &mut [u8], s: State) -> Done
 // Initialise: the initial state, all of memory zeroed, and every download erased.
 pub fn initialise(g: Module, mem: &mut [u8], store: &mut [u8], s: State, held: bool) -> Done
     requires { ⌜ Ready g s (now mem) × (held ≡ isHeld (s .hold)) ⌝ }
-    ensures { λ r. ⌜ ((font : Faces) → Does g (now (mem .entry)) r (now (mem .exit)) (commandOf g font s Command.Initialise))
-        × ((font : List ℕ) → now (store .exit) ≡ commandStore g (faces font (now (store .entry))) s Command.Initialise) ⌝ }
+    ensures { λ r. ⌜ ((font : List ℕ) →
+        Does g (now (mem .entry)) r (now (mem .exit)) (commandOf g (faces font (now (store .entry))) s Command.Initialise)
+        × (now (store .exit) ≡ commandStore g (faces font (now (store .entry))) s Command.Initialise)) ⌝ }
 {
     if held {
         return carry_state::ends(s, Outcome::WindowHeld);

@@ -85,7 +85,7 @@ returns-2 c =
     (rw (sized .cell-now .ensures, sized .before .spot-of .ensures) at (drawing .character .ensures))
     (ends-at (c .ends2 .ensures) (c .before .settle .ensures))
     (is-10 (a .g) (a .font .now) (a .s) (Character (a .code))
-    (record { carried = refl; owner = refl; domain = refl; defined = refl; room = fits left }))
+    (record { carried = refl; owner = refl; domain = refl; defined = refl; room = fits left; stored = refl }))
 
 pub character-spec : {M : Type 1} → statement M
 character-spec =
