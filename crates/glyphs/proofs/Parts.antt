@@ -1,16 +1,19 @@
 -- A glyph's columns as a part of the bytes it stands in: of the font, or of a place of the downloads; and where only the font is
 -- drawn from. Assumes nothing.
 use mathlib.Core.Path.{_≡_, refl, ap}
-use mathlib.Core.List.{List, _∷_}
+use mathlib.Core.Bool.{Bool, true, false, cond}
+use mathlib.Core.List.{List, [], _∷_}
 use Prim.Native.Nat.{ℕ, zero, suc, _+_, _*_, _-_, _<_, _≤_}
 use native.Mathlib.Nat.{mul-le-mul-left}
 use native.Mathlib.Omega.{arith}
+use lib.Dec.{eqb}
 use lib.ListN.{length, getD, take, drop}
 use lib.Seq.{drop-cons}
 use borrow.Author.Tests.{le-ltb}
 use Rattle.paper.specs.declared.Module.{Module}
 use Rattle.paper.specs.Panel.{fontLength, bytesFrom, fontGlyph}
-use Rattle.paper.specs.Downloads.{placesIn, place, faces, glyphOf}
+use Rattle.paper.specs.Downloads.{placeLength, placesIn, widthAt, place, isStored, faces, ownGlyph, glyphOf}
+use Rattle.glyphs.specs.Own.{ownColumns}
 
 -- n bytes from a place on, where there are as many
 take-bytes : (n i : ℕ) (l : List ℕ) → i + n ≤ length l → take n (drop i l) ≡ bytesFrom n i l
@@ -36,7 +39,31 @@ pub length-bytes : (n i : ℕ) (l : List ℕ) → length (bytesFrom n i l) ≡ n
 length-bytes zero i l = refl
 length-bytes (suc n) i l = ap suc (length-bytes n (suc i) l)
 
--- where there are no places a code is drawn from the font
-pub font-alone : (g : Module) (font own : List ℕ) (code : ℕ) → length own ≡ 0 → glyphOf g (faces font own) code ≡ fontGlyph g font code
-unfolding glyphOf
-font-alone g font own code e = rw (le-ltb (place own code) (placesIn own) (omega (arith, e)))
+-- ---- which of the two a code is drawn from
+
+module _ (g : Module) (font own : List ℕ) (code : ℕ) where
+  -- where there are no places, from the font
+  pub font-alone : length own ≡ 0 → glyphOf g (faces font own) code ≡ fontGlyph g font code
+  unfolding glyphOf
+  font-alone e = rw (le-ltb (place own code) (placesIn own) (omega (arith, e)))
+
+  -- where it has no columns of its own, from the font; else from those
+  pub own-none : length (ownColumns own code) ≡ 0 → glyphOf g (faces font own) code ≡ fontGlyph g font code
+  unfolding glyphOf ownColumns
+  own-none = go (isStored own code) (eqb (widthAt own (place own code)) 5)
+    where
+      columns : Bool → List ℕ
+      columns t = bytesFrom (cond t 5 7) (placeLength * place own code + 2) own
+
+      go : (s t : Bool) → length (cond s (columns t) []) ≡ 0 → cond s (columns t) (fontGlyph g font code) ≡ fontGlyph g font code
+      go true true e = absurd (omega (arith, e))
+      go true false e = absurd (omega (arith, e))
+      go false t e = refl
+
+  pub own-some : (length (ownColumns own code) ≡ 0 → ⊥) → glyphOf g (faces font own) code ≡ ownColumns own code
+  unfolding glyphOf ownColumns
+  own-some = go (isStored own code) (ownGlyph own (place own code))
+    where
+      go : (s : Bool) (l : List ℕ) → (length (cond s l []) ≡ 0 → ⊥) → cond s l (fontGlyph g font code) ≡ cond s l []
+      go true l n = refl
+      go false l n = absurd (n refl)

@@ -9,10 +9,11 @@ ghost use Prim.Native.Nat.{_+_, _*_, _/_, _^_, _≤_, _<_};
 ghost use lib.Dec.{eqb};
 ghost use lib.ListN.{length};
 ghost use Rattle.paper.specs.Panel.{fontLength, fontGlyph};
-ghost use Rattle.paper.specs.Downloads.{placesIn, faces, ownGlyph, glyphOf};
+ghost use Rattle.paper.specs.Downloads.{placesIn, ownGlyph};
 ghost use Rattle.paper.specs.Cells.{blanksLeft, blankColumns, cellWidth};
 ghost use Rattle.laws_bytes.specs.Bytes.{double, glyphColumn, reversedByte, mixedByte};
 ghost use Rattle.glyphs.specs.Cell.{cellOf};
+ghost use Rattle.glyphs.specs.Own.{ownColumns};
 ghost use Rattle.glyphs.specs.Columns.{tallOf, inkColumn, nextOf, blankRight, framedOn, placingOf};
 
 // A column of a cell repeated downwards: the bytes of its two rows. A cell one row high has the first alone.
@@ -83,7 +84,7 @@ pub fn font_glyph(g: Module, font: &[u8], code: u8) -> &[u8]
 }
 
 // The columns of the download in place k.
-fn own_glyph(own: &[u8], k: usize) -> &[u8]
+fn columns_at(own: &[u8], k: usize) -> &[u8]
     requires { ⌜ k < placesIn (now own) ⌝ }
     ensures { λ r. ⌜ now r ≡ ownGlyph (now (own .entry)) k ⌝ }
 {
@@ -94,17 +95,15 @@ fn own_glyph(own: &[u8], k: usize) -> &[u8]
     &own[first..first + 7]
 }
 
-// The columns that a code is drawn from: its download's if it is stored, else the font's. Where there are no downloads callers take the
-// font's at once, since a search is dear in a loop over characters.
-pub fn glyph_of<'a>(g: Module, font: &'a [u8], own: &'a [u8], code: u8) -> &'a [u8]
-    requires { ⌜ (length (now font) ≡ fontLength g) × (0x20 ≤ code) ⌝ }
-    ensures { λ r. ⌜ now r ≡ glyphOf g (faces (now (font .entry)) (now (own .entry))) code ⌝ }
+// The columns of a code's download, none where it is not stored.
+pub fn own_glyph(own: &[u8], code: u8) -> &[u8]
+    ensures { λ r. ⌜ now r ≡ ownColumns (now (own .entry)) code ⌝ }
 {
     let k = downloads::place(own, code);
     if k < own.len() / 9 {
-        return own_glyph(own, k);
+        return columns_at(own, k);
     }
-    font_glyph(g, font, code)
+    &own[0..0]
 }
 
 // How many blank columns stand on the left of a glyph.

@@ -1,37 +1,30 @@
--- `glyphs::own_glyph` meets its contract, by its test: a download's columns stand in its place. Assumes nothing.
-use Prim.Native.Nat.{_+_, _*_}
-use native.Mathlib.Omega.{arith}
-use borrow.Author.Tests.{eq-eqb, ne-eqb}
-use Rattle.glyphs.proofs.Parts.{part-bytes}
+-- `glyphs::own_glyph` meets its contract, by whether the code is stored. Assumes nothing.
+use borrow.Author.Needs.{needs}
+use borrow.Author.Tests.{lt-ltb, le-ltb}
+use Rattle.glyphs.specs.Own.{ownColumns}
 use Rattle.glyphs.proofs.own_glyph.Statement.{statement}
 use Rattle.glyphs.proofs.own_glyph.Tie as tie
 
 returns : tie.Need-returns
+unfolding ownColumns
 returns c =
-    let a = c .before .before .before .args in
-    rw (eq-eqb _ _ (c .before .if1 .taken)) (part-bytes 5 (9 * a .k + 2) (a .own .now) (omega arith))
+    let tested = c .before in
+    rw (← tested .before .place .ensures, lt-ltb _ _ (tested .if1 .taken)) (c .columns-at .ensures)
 
 returns-2 : tie.Need-returns-2
+unfolding ownColumns
 returns-2 c =
-    let a = c .before .before .before .args in
-    rw (ne-eqb _ _ (c .before .if1 .left)) (part-bytes 7 (9 * a .k + 2) (a .own .now) (omega arith))
+    let tested = c .before in
+    rw (← tested .before .place .ensures, le-ltb _ _ (tested .if1 .left))
 
 pub own-glyph-spec : {M : Type 1} → statement M
 own-glyph-spec =
     tie.close
     (tie.spec
-    (λ c. omega arith)
-    (λ c. omega arith)
-    (λ c. omega arith)
-    (λ c. omega arith)
-    (λ c. omega arith)
-    (λ c. omega arith)
-    (λ c. omega arith)
-    (λ c. omega arith)
-    (λ c. omega arith)
+    (λ c κs. search needs)
+    (λ c κs. search needs)
     returns
-    (λ c. omega arith)
-    (λ c. omega arith)
-    (λ c. omega arith)
-    (λ c. omega arith)
+    (λ c. search needs)
+    (λ c. search needs)
+    (λ c. search needs)
     returns-2)
