@@ -11,9 +11,6 @@ use Rattle.carry_dots.proofs.Wrote.{does-answer, does-erase}
 use Rattle.carry_dots.proofs.initialise.Statement.{statement}
 use Rattle.carry_dots.proofs.initialise.Tie as tie
 
-ends-requires : tie.Need-ends-requires
-ends-requires c κs = search needs
-
 returns : tie.Need-returns
 unfolding asks carriedOut outcomeNumber
 returns c font =
@@ -22,24 +19,6 @@ returns c font =
     let f = faces font (now (a .store)) in
     let e = is-15 (a .g) f (a .s) Initialise refl (sym (start .pre .1) ∙ c .before .if1 .taken) in
     (does-answer (c .ends .ensures) e, store-answered (a .g) f (a .s) Initialise e refl)
-
-erase-requires : tie.Need-erase-requires
-erase-requires c κs = search needs
-
-erase-all-requires : tie.Need-erase-all-requires
-erase-all-requires c κs = search needs
-
-initial-state-requires : tie.Need-initial-state-requires
-initial-state-requires c κs = search needs
-
-ends-requires-2 : tie.Need-ends-requires-2
-ends-requires-2 c κs = search needs
-
-same-length : tie.Need-same-length
-same-length c = search needs
-
-same-length-2 : tie.Need-same-length-2
-same-length-2 c = search needs
 
 returns-2 : tie.Need-returns-2
 unfolding asks carriedOut leaves outcomeNumber
@@ -68,12 +47,12 @@ pub initialise-spec : {M : Type 1} → statement M
 initialise-spec =
     tie.close
     (tie.spec
-    ends-requires
+    (λ c κs. search needs)
     returns
-    erase-requires
-    erase-all-requires
-    initial-state-requires
-    ends-requires-2
-    same-length
-    same-length-2
+    (λ c κs. search needs)
+    (λ c κs. search needs)
+    (λ c κs. search needs)
+    (λ c κs. search needs)
+    (λ c. search needs)
+    (λ c. search needs)
     returns-2)
