@@ -1,5 +1,5 @@
 // Leaves measured: the functions that write memory and glass, exported to C for the benchmark in bench/.
-// It may use modules, dots, glass and cells. Each function works on the 112 by 16 module; it tests what its leaf asks and does nothing if that
+// It may use modules, dots, glass, glyphs and cells. Each function works on the 112 by 16 module; it tests what its leaf asks and does nothing if that
 // does not hold. It is no part of the panel.
 use paper::Module;
 use paper::Rect;
@@ -119,7 +119,8 @@ pub extern "C" fn leaf_draw(
         across,
         down,
     };
-    cells::draw(g, mem, font, code, 1, style, r);
+    let cols = glyphs::font_glyph(g, font, code);
+    cells::draw_alike(g, mem, cols, 1, style, r);
 }
 
 // Copies both rows' columns from `first` to the one before `end` to the glass, and says how many bytes that were.

@@ -1,6 +1,6 @@
 -- A glyph's columns as a part of the bytes it stands in: of the font, or of a place of the downloads; and where only the font is
 -- drawn from. Assumes nothing.
-use mathlib.Core.Path.{_≡_, refl, ap}
+use mathlib.Core.Path.{_≡_, refl, ap, _∙_}
 use mathlib.Core.Bool.{Bool, true, false, cond}
 use mathlib.Core.List.{List, [], _∷_}
 use Prim.Native.Nat.{ℕ, zero, suc, _+_, _*_, _-_, _<_, _≤_}
@@ -35,9 +35,13 @@ glyph-in g code l h = omega (arith, mul-le-mul-left (g .glyph) (code-in code l h
     code-in n l h = omega arith
 
 -- the n bytes from a place on are n
-pub length-bytes : (n i : ℕ) (l : List ℕ) → length (bytesFrom n i l) ≡ n
+length-bytes : (n i : ℕ) (l : List ℕ) → length (bytesFrom n i l) ≡ n
 length-bytes zero i l = refl
 length-bytes (suc n) i l = ap suc (length-bytes n (suc i) l)
+
+-- a glyph of the font has as many columns as the module says
+pub font-columns : (g : Module) (font cols : List ℕ) (code : ℕ) → cols ≡ fontGlyph g font code → length cols ≡ g .glyph
+font-columns g font cols code e = ap length e ∙ length-bytes (g .glyph) _ font
 
 -- ---- which of the two a code is drawn from
 

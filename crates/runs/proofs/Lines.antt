@@ -11,10 +11,11 @@ use Rattle.paper.specs.declared.Module.{Module}
 use Rattle.paper.specs.declared.Span.{Span}
 use Rattle.paper.specs.declared.Style.{Style}
 use Rattle.paper.specs.declared.View.{View}
+use Rattle.paper.specs.Downloads.{Faces, glyphOf}
 use Rattle.paper.specs.Strokes.{rectAt, markRect}
 use Rattle.paper.specs.Cells.{cellWidth, cellHeight, partOf, drawStroke}
 use Rattle.paper.specs.Moves.{writing, to, pushLeft, htOf, drawTab, characterOf}
-use Rattle.cells.specs.Drawn.{drawn}
+use Rattle.cells.specs.Drawn.{drawnAs, drawn}
 use Rattle.laws_memory.proofs.Tests.{and-parts}
 use Rattle.moves.specs.declared.Spot.{Spot}
 use Rattle.moves.specs.Does.{Does, spot}
@@ -31,7 +32,7 @@ whole-part : (v : View) (c l : ℕ) → v .x + c ≤ v .width → v .y + l ≤ v
     → rectAt (v .left + v .x) (v .top + v .y) c l ≡ partOf v c l
 whole-part v c l a d = ap₂ (rectAt (v .left + v .x) (v .top + v .y)) (omega arith) (omega arith)
 
-module _ (g : Module) (ps : List Span) (m font : List ℕ) (w : ℕ) (y : Style) (code : ℕ) (v : View)
+module _ (g : Module) (ps : List Span) (m : List ℕ) (font : Faces) (w : ℕ) (y : Style) (code : ℕ) (v : View)
     (across : v .x + 2 * cellWidth g w y ≤ v .width) (down : v .y + cellHeight y ≤ v .height) where
   -- HT steps on
   steps-on : htOf g v (cellWidth g w y) (cellHeight y) ≡ record { view = to v (v .x + cellWidth g w y) (v .y); strokes = [] }
@@ -40,9 +41,9 @@ module _ (g : Module) (ps : List Span) (m font : List ℕ) (w : ℕ) (y : Style)
 
   pub drawn-in-line : {r : Spot} {qs : List Span} {m₁ : List ℕ} → r ≡ spot (to v (v .x + cellWidth g w y) (v .y)) qs
       → qs ≡ markRect (rectAt (v .left + v .x) (v .top + v .y) (cellWidth g w y) (cellHeight y)) ps
-      → m₁ ≡ drawn g font code w y (rectAt (v .left + v .x) (v .top + v .y) (cellWidth g w y) (cellHeight y)) m
+      → m₁ ≡ drawn g (glyphOf g font code) w y (rectAt (v .left + v .x) (v .top + v .y) (cellWidth g w y) (cellHeight y)) m
       → Does g ps m r m₁ (characterOf g font w y code v)
-  unfolding characterOf drawTab drawn
+  unfolding characterOf drawTab drawnAs
   drawn-in-line {qs} {m₁} e k d =
       let whole = whole-part v (cellWidth g w y) (cellHeight y) (omega arith) down in
       rw (le-leb (v .x + cellWidth g w y) (v .width) (omega arith))
@@ -58,7 +59,7 @@ last-cell mode x c width e =
     let g = and-parts (ltb width (x + 2 * c)) (leb (x + c) width) (f .1) in
     (eqb-true mode 3 (f .0), ltb-true width (x + 2 * c) (g .0), leb-true (x + c) width (g .1))
 
-module _ (g : Module) (ps : List Span) (m font : List ℕ) (w : ℕ) (y : Style) (code : ℕ) (v : View) (third : v .mode ≡ 3)
+module _ (g : Module) (ps : List Span) (m : List ℕ) (font : Faces) (w : ℕ) (y : Style) (code : ℕ) (v : View) (third : v .mode ≡ 3)
     (full : v .width < v .x + 2 * cellWidth g w y) (across : v .x + cellWidth g w y ≤ v .width) where
   -- HT pushes the line left
   pushes : htOf g v (cellWidth g w y) (cellHeight y) ≡ pushLeft g v (cellWidth g w y) (cellHeight y)

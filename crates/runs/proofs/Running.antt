@@ -4,12 +4,13 @@ use mathlib.Core.Bool.{true, false, false≢true, _&&_}
 use mathlib.Core.List.{List}
 use Prim.Native.Nat.{ℕ, _+_, _*_, _-_, _<_, _≤_}
 use native.Mathlib.Omega.{arith}
-use lib.ListN.{length, getD}
+use lib.ListN.{length, getD, List·getD-eq-default}
 use lib.Dec.{leb}
 use borrow.Author.Tests.{leb-true, le-leb}
 use Rattle.paper.specs.declared.Module.{Module}
 use Rattle.paper.specs.declared.Span.{Span}
 use Rattle.paper.specs.declared.Style.{Style}
+use Rattle.paper.specs.Downloads.{Faces, glyphOf}
 use Rattle.paper.specs.Strokes.{rectAt, markRect}
 use Rattle.paper.specs.Cells.{cellWidth, cellHeight}
 use Rattle.paper.specs.Moves.{to, characterOf}
@@ -18,7 +19,7 @@ use Rattle.laws_state.specs.Runs.{writtenOn}
 use Rattle.laws_state.proofs.Moves.{character-kept}
 use Rattle.laws_state.proofs.Runs.{within-kept, within-room}
 use Rattle.laws_state.proofs.Taken.{characters-more, characters-stop, characters-end}
-use Rattle.laws_memory.proofs.Tests.{eq-cases, and-parts}
+use Rattle.laws_memory.proofs.Tests.{lt-cases, eq-cases, and-parts}
 use Rattle.moves.specs.declared.Spot.{Spot}
 use Rattle.moves.specs.Does.{Does, spot}
 use Rattle.cells.specs.Drawn.{drawn}
@@ -28,7 +29,7 @@ use Rattle.laws_glass.proofs.Marks.{mark-at, mark-none, mark-beside}
 use Rattle.runs.proofs.Lines.{drawn-in-line}
 
 -- what a character did is what it does to a sheet
-on-sheet : (g : Module) (font : List ℕ) (w : ℕ) (y : Style) (b : ℕ) (q r : Spot) (n n′ : List ℕ)
+on-sheet : (g : Module) (font : Faces) (w : ℕ) (y : Style) (b : ℕ) (q r : Spot) (n n′ : List ℕ)
     → Does g (q .spans) n r n′ (characterOf g font w y b (q .view)) → under r n′ ≡ writtenOn g font w y (under q n) b
 on-sheet g font w y b q r n n′ d = rw (d .view, d .spans, d .mem)
 
@@ -37,7 +38,15 @@ past : (piece : List ℕ) (from i : ℕ) → from ≤ i → 0x20 ≤ getD piece 
 past piece from i l a b =
     eq-cases from i (λ e. let f : getD piece from 0 < 0x20 = rw e b in absurd (omega arith)) (λ n. omega arith)
 
-module _ (g : Module) (font : List ℕ) (w : ℕ) (y : Style) (p : Spot) (m piece : List ℕ) (from : ℕ) where
+-- what the test for a character more in a line says
+pub room-for : (piece : List ℕ) (i to end : ℕ) → (leb 0x20 (getD piece i 0) && leb to end) ≡ true
+    → (i < length piece) × (0x20 ≤ getD piece i 0) × (to ≤ end)
+room-for piece i to end t =
+    let f = and-parts (leb 0x20 (getD piece i 0)) (leb to end) t in
+    let b = leb-true 0x20 (getD piece i 0) (f .0) in
+    (lt-cases i (length piece) (λ l. l) (λ h. absurd (omega (arith, b, List·getD-eq-default piece 0 h))), b, leb-true to end (f .1))
+
+module _ (g : Module) (font : Faces) (w : ℕ) (y : Style) (p : Spot) (m piece : List ℕ) (from : ℕ) where
   -- nothing drawn yet
   pub went-begin : InMemory g (p .view) → from < length piece → Went g font w y p m piece from (drawnTo p from) m
   went-begin i l =
@@ -126,12 +135,6 @@ module _ (g : Module) (font : List ℕ) (w : ℕ) (y : Style) (p : Spot) (m piec
   pub lining-begin : (l : ℕ) → InMemory g (p .view) → from < length piece → Lining l m start from
   lining-begin l i h = record { went = rw (pen-begin l) (went-begin i h); on = omega arith; begun = λ e. refl }
 
-  -- what the test says
-  pub room-for : (b a c end : ℕ) → (leb 0x20 b && leb (a + 2 * c) end) ≡ true → (0x20 ≤ b) × (a + 2 * c ≤ end)
-  room-for b a c end t =
-      let f = and-parts (leb 0x20 b) (leb (a + 2 * c) end) t in
-      (leb-true 0x20 b (f .0), leb-true (a + 2 * c) end (f .1))
-
   module _ (l : ℕ) (n : List ℕ) (a i : ℕ) (k : Lining l n a i) where
     -- the cell at column a, marked after the line, is the line a cell longer
     longer : markRect (rectAt (p .view .left + (a - p .view .left)) (p .view .top + p .view .y) (cellWidth g w y) l) (penAt p l a .spans)
@@ -144,7 +147,7 @@ module _ (g : Module) (font : List ℕ) (w : ℕ) (y : Style) (p : Spot) (m piec
     -- a cell more
     pub lining-next : {n′ : List ℕ} → Room g (p .view) (cellWidth g w y) (cellHeight y) → l ≡ cellHeight y → i < length piece
         → 0x20 ≤ getD piece i 0 → a + 2 * cellWidth g w y ≤ p .view .left + p .view .width → p .view .y + l ≤ p .view .height
-        → n′ ≡ drawn g font (getD piece i 0) w y (rectAt a (p .view .top + p .view .y) (cellWidth g w y) l) n
+        → n′ ≡ drawn g (glyphOf g font (getD piece i 0)) w y (rectAt a (p .view .top + p .view .y) (cellWidth g w y) l) n
         → length n′ ≡ length n → Lining l n′ (a + cellWidth g w y) (i + 1)
     lining-next room e h b across down d s =
         record {
@@ -155,7 +158,7 @@ module _ (g : Module) (font : List ℕ) (w : ℕ) (y : Style) (p : Spot) (m piec
               (ap (λ (x : ℕ). spot (to (p .view) x (p .view .y)) (penAt p l (a + cellWidth g w y) .spans)) (omega (arith, k .on)))
               (sym longer
               ∙ ap (λ (h : ℕ). markRect (rectAt (p .view .left + (a - p .view .left)) (p .view .top + p .view .y) (cellWidth g w y) h) (penAt p l a .spans)) e)
-              (d ∙ ap₂ (λ (x h : ℕ). drawn g font (getD piece i 0) w y (rectAt x (p .view .top + p .view .y) (cellWidth g w y) h) n)
+              (d ∙ ap₂ (λ (x h : ℕ). drawn g (glyphOf g font (getD piece i 0)) w y (rectAt x (p .view .top + p .view .y) (cellWidth g w y) h) n)
               (omega (arith, k .on)) e)) s;
           on = omega (arith, k .on);
           begun = λ f. absurd (omega (arith, k .went .low));

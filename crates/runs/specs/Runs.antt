@@ -5,6 +5,7 @@ use Prim.Native.Nat.{ℕ, _+_, _-_, _<_, _≤_}
 use lib.ListN.{length, drop}
 use Rattle.paper.specs.declared.Module.{Module}
 use Rattle.paper.specs.declared.Style.{Style}
+use Rattle.paper.specs.Downloads.{Faces}
 use Rattle.paper.specs.Strokes.{rectAt, markRect}
 use Rattle.paper.specs.Moves.{to}
 use Rattle.laws_state.specs.Runs.{Sheet, sheet, written, charactersOf, Within}
@@ -26,7 +27,7 @@ penAt p l end =
     (markRect (rectAt (p .view .left + p .view .x) (p .view .top + p .view .y) (end - p .view .left - p .view .x) l) (p .spans))
 
 -- some characters drawn, from one place of a piece to another: what is left gives what the whole gives
-pub record Went (g : Module) (font : List ℕ) (w : ℕ) (y : Style) (p : Spot) (m piece : List ℕ) (from : ℕ) (r : Drawn) (m′ : List ℕ) : Type 0 where
+pub record Went (g : Module) (font : Faces) (w : ℕ) (y : Style) (p : Spot) (m piece : List ℕ) (from : ℕ) (r : Drawn) (m′ : List ℕ) : Type 0 where
   pub low : from ≤ r .at
   pub high : r .at ≤ length piece
   pub size : length m′ ≡ length m
@@ -34,7 +35,7 @@ pub record Went (g : Module) (font : List ℕ) (w : ℕ) (y : Style) (p : Spot) 
   pub done : charactersOf g font w y (under (r .spot) m′) (drop (r .at) piece) ≡ charactersOf g font w y (under p m) (drop from piece)
 
 -- a run of characters from one place of a piece to another, where the piece ends or a byte is none
-pub record Ran (g : Module) (font : List ℕ) (w : ℕ) (y : Style) (p : Spot) (m piece : List ℕ) (from : ℕ) (r : Drawn) (m′ : List ℕ) : Type 0 where
+pub record Ran (g : Module) (font : Faces) (w : ℕ) (y : Style) (p : Spot) (m piece : List ℕ) (from : ℕ) (r : Drawn) (m′ : List ℕ) : Type 0 where
   pub some : from < r .at
   pub end : r .at ≤ length piece
   pub within : Within (p .view) (r .spot .view)

@@ -1,20 +1,25 @@
 // Runs: characters that follow each other in a piece, in one loop.
 // It may use text for a character that wraps, glyphs and cells for what is drawn, moves and moves_tab for the cursor and what is marked. It
 // knows no state, so that the compiler need not lay one down for each byte, and what a line has written is marked once.
-// Each contract says that the run is the fold of its single bytes.
+// Each contract says that the run is the fold of its single bytes. The downloads lent to it are those in force.
 use glyphs::Cell;
 use moves::Spot;
 use paper::Module;
 use paper::Rect;
 use paper::Style;
 ghost use mathlib.Core.Path.{_≡_};
+ghost use mathlib.Core.Bool.{_&&_};
 ghost use Prim.Native.Nat.{_+_, _*_, _^_, _≤_, _<_};
 ghost use lib.ListN.{length, getD};
+ghost use lib.Dec.{leb};
+ghost use Rattle.paper.specs.Panel.{fontLength};
+ghost use Rattle.paper.specs.Downloads.{faces, glyphOf};
 ghost use Rattle.paper.specs.Cells.{cellWidth, cellHeight};
 ghost use Rattle.paper.specs.Moves.{characterOf};
-ghost use Rattle.laws_memory.specs.Rectangles.{Fits};
+ghost use Rattle.laws_memory.specs.Rectangles.{Fits, Within};
 ghost use Rattle.laws_state.specs.Room.{Usable, Room};
 ghost use Rattle.glyphs.specs.Cell.{cellOf};
+ghost use Rattle.cells.specs.Drawn.{drawn};
 ghost use Rattle.moves.specs.Does.{Does};
 ghost use Rattle.text.specs.Inked.{Inked};
 ghost use Rattle.runs.specs.Runs.{Went, Ran, penAt, drawnTo};
@@ -42,11 +47,40 @@ fn drawn_to(p: Spot, l: usize, end: usize, at: usize) -> Drawn
     Drawn { spot, at }
 }
 
+// Whether a character stands at place i of a piece, and the cells of it and of another end in the range: at column `to`.
+fn goes_on(piece: &[u8], i: usize, to: usize, end: usize) -> bool
+    ensures { λ t. ⌜ t ≡ (leb 0x20 (getD (now (piece .entry)) i 0) && leb to end) ⌝ }
+{
+    if i < piece.len() {
+        let b = piece[i];
+        return (0x20 <= b) & (to <= end);
+    }
+    false
+}
+
+// The whole cell of a code. Without downloads it is one test more, which a loop over characters makes before it begins.
+fn draw_code(g: Module, mem: &mut [u8], font: &[u8], own: &[u8], code: u8, cell: Cell, r: Rect)
+    requires { ⌜ Within g r × Fits g (now mem) × (length (now font) ≡ fontLength g) × (0x20 ≤ code) ⌝ }
+    requires { ⌜ (1 ≤ cell .style .across) × (cell .style .down ≤ 2) × (cell .rows ≡ cell .style .down) ⌝ }
+    requires { ⌜ (r .width ≡ cell .columns) × (r .height ≡ cell .rows) ⌝ }
+    ensures { λ _. ⌜ now (mem .exit) ≡ drawn g (glyphOf g (faces (now (font .entry)) (now (own .entry))) code) (cell .blanks) (cell .style) r
+        (now (mem .entry)) ⌝ }
+{
+    if own.len() == 0 {
+        let cols = glyphs::font_glyph(g, font, code);
+        cells::draw_whole(g, mem, cols, cell, r.left, r.top);
+        return;
+    }
+    let style = cell.style;
+    text::draw_found(g, mem, font, own, code, cell.blanks, style, r);
+}
+
 // The characters that stand in the cursor's line with room for another after each.
 fn line(
     g: Module,
     mem: &mut [u8],
     font: &[u8],
+    own: &[u8],
     p: Spot,
     cell: Cell,
     piece: &[u8],
@@ -55,7 +89,7 @@ fn line(
     requires { ⌜ Usable g × (Room g (p .view) (cell .columns) (cell .rows) × (Inked g (now font) cell 0x20 × Fits g (now mem))) ⌝ }
     requires { ⌜ (from < length (now piece)) × (0x20 ≤ getD (now piece) from 0) ⌝ }
     requires { ⌜ (p .view .x + 2 * cell .columns ≤ p .view .width) × (p .view .y + cell .rows ≤ p .view .height) ⌝ }
-    ensures { λ r. ⌜ (from < r .at) × Went g (now (font .entry)) (cell .blanks) (cell .style) p (now (mem .entry))
+    ensures { λ r. ⌜ (from < r .at) × Went g (faces (now (font .entry)) (now (own .entry))) (cell .blanks) (cell .style) p (now (mem .entry))
         (now (piece .entry)) from r (now (mem .exit)) ⌝ }
 {
     let v = p.view;
@@ -68,39 +102,39 @@ fn line(
         height: cell.rows,
     };
     let mut i = from;
-    while i < piece.len() {
-        let b = piece[i];
-        if (0x20 <= b) & (r.left + 2 * c <= end) {
-            cells::draw_whole(g, mem, font, b, cell, r.left, r.top);
-            r.left += c;
-            i += 1;
-        } else {
-            return drawn_to(p, r.height, r.left, i);
-        }
+    while goes_on(piece, i, r.left + 2 * c, end) {
+        draw_code(g, mem, font, own, piece[i], cell, r);
+        r.left += c;
+        i += 1;
     }
     drawn_to(p, r.height, r.left, i)
 }
 
 // A character in MD3's last cell: drawn, and the line pushed left. It is the mode's way with each character of a full line.
-fn push(g: Module, mem: &mut [u8], font: &[u8], p: Spot, cell: Cell, code: u8) -> Spot
+fn push(g: Module, mem: &mut [u8], font: &[u8], own: &[u8], p: Spot, cell: Cell, code: u8) -> Spot
     requires { ⌜ Usable g × (Room g (p .view) (cell .columns) (cell .rows) × (Inked g (now font) cell code × Fits g (now mem))) ⌝ }
     requires { ⌜ (p .view .mode ≡ 3) × (p .view .width < p .view .x + 2 * cell .columns) × (p .view .x + cell .columns ≤ p .view .width) ⌝ }
     ensures { λ r. ⌜ Does g (p .spans) (now (mem .entry)) r (now (mem .exit))
-        (characterOf g (now (font .entry)) (cell .blanks) (cell .style) code (p .view)) ⌝ }
+        (characterOf g (faces (now (font .entry)) (now (own .entry))) (cell .blanks) (cell .style) code (p .view)) ⌝ }
 {
     let v = p.view;
     let style = cell.style;
     let r = text::inside(v, cell.columns, cell.rows);
-    cells::draw(g, mem, font, code, cell.blanks, style, r);
+    if own.len() == 0 {
+        let cols = glyphs::font_glyph(g, font, code);
+        cells::draw_alike(g, mem, cols, cell.blanks, style, r);
+    } else {
+        text::draw_found(g, mem, font, own, code, cell.blanks, style, r);
+    }
     let q = moves::marked(p, r);
     moves_tab::push_left(g, mem, q, cell.columns, cell.rows)
 }
 
 // One character where the cursor's line has no room for another after it.
-fn last(g: Module, mem: &mut [u8], font: &[u8], p: Spot, cell: Cell, code: u8) -> Spot
+fn last(g: Module, mem: &mut [u8], font: &[u8], own: &[u8], p: Spot, cell: Cell, code: u8) -> Spot
     requires { ⌜ Usable g × (Room g (p .view) (cell .columns) (cell .rows) × (Inked g (now font) cell code × Fits g (now mem))) ⌝ }
     ensures { λ r. ⌜ Does g (p .spans) (now (mem .entry)) r (now (mem .exit))
-        (characterOf g (now (font .entry)) (cell .blanks) (cell .style) code (p .view)) ⌝ }
+        (characterOf g (faces (now (font .entry)) (now (own .entry))) (cell .blanks) (cell .style) code (p .view)) ⌝ }
 {
     let v = p.view;
     let x = v.x;
@@ -108,9 +142,9 @@ fn last(g: Module, mem: &mut [u8], font: &[u8], p: Spot, cell: Cell, code: u8) -
     let mode = v.mode;
     let c = cell.columns;
     if (mode == 3) & ((width < x + 2 * c) & (x + c <= width)) {
-        return push(g, mem, font, p, cell, code);
+        return push(g, mem, font, own, p, cell, code);
     }
-    text::character(g, mem, font, p, cell, code)
+    text::character(g, mem, font, own, p, cell, code)
 }
 
 // The characters of a line; where the cursor's has no room for another after it, the one that wraps.
@@ -118,6 +152,7 @@ fn stretch(
     g: Module,
     mem: &mut [u8],
     font: &[u8],
+    own: &[u8],
     p: Spot,
     cell: Cell,
     piece: &[u8],
@@ -125,7 +160,7 @@ fn stretch(
 ) -> Drawn
     requires { ⌜ Usable g × (Room g (p .view) (cell .columns) (cell .rows) × (Inked g (now font) cell 0x20 × Fits g (now mem))) ⌝ }
     requires { ⌜ (from < length (now piece)) × (0x20 ≤ getD (now piece) from 0) × (from + 1 < 2 ^ 64) ⌝ }
-    ensures { λ r. ⌜ (from < r .at) × Went g (now (font .entry)) (cell .blanks) (cell .style) p (now (mem .entry))
+    ensures { λ r. ⌜ (from < r .at) × Went g (faces (now (font .entry)) (now (own .entry))) (cell .blanks) (cell .style) p (now (mem .entry))
         (now (piece .entry)) from r (now (mem .exit)) ⌝ }
 {
     let v = p.view;
@@ -134,9 +169,9 @@ fn stretch(
     let width = v.width;
     let height = v.height;
     if (x + 2 * cell.columns <= width) & (y + cell.rows <= height) {
-        return line(g, mem, font, p, cell, piece, from);
+        return line(g, mem, font, own, p, cell, piece, from);
     }
-    let spot = last(g, mem, font, p, cell, piece[from]);
+    let spot = last(g, mem, font, own, p, cell, piece[from]);
     Drawn { spot, at: from + 1 }
 }
 
@@ -145,6 +180,7 @@ pub fn run(
     g: Module,
     mem: &mut [u8],
     font: &[u8],
+    own: &[u8],
     p: Spot,
     w: u8,
     style: Style,
@@ -153,7 +189,7 @@ pub fn run(
 ) -> Drawn
     requires { ⌜ Usable g × (Room g (p .view) (cellWidth g w style) (cellHeight style) × (Inked g (now font) (cellOf g w style) 0x20 × Fits g (now mem))) ⌝ }
     requires { ⌜ (from < length (now piece)) × (0x20 ≤ getD (now piece) from 0) ⌝ }
-    ensures { λ r. ⌜ Ran g (now (font .entry)) w style p (now (mem .entry)) (now (piece .entry)) from r (now (mem .exit)) ⌝ }
+    ensures { λ r. ⌜ Ran g (faces (now (font .entry)) (now (own .entry))) w style p (now (mem .entry)) (now (piece .entry)) from r (now (mem .exit)) ⌝ }
 {
     let cell = glyphs::cell_of(g, w, style);
     let mut q = p;
@@ -163,7 +199,7 @@ pub fn run(
         if b < 0x20 {
             return Drawn { spot: q, at: i };
         }
-        let r = stretch(g, mem, font, q, cell, piece, i);
+        let r = stretch(g, mem, font, own, q, cell, piece, i);
         q = r.spot;
         i = r.at;
     }

@@ -8,7 +8,6 @@ use Rattle.paper.specs.declared.Rect.{Rect}
 use Rattle.paper.specs.declared.Span.{Span}
 use Rattle.paper.specs.declared.Style.{Style}
 use Rattle.paper.specs.declared.View.{View}
-use Rattle.paper.specs.Panel.{fontGlyph}
 use Rattle.paper.specs.Downloads.{Faces, glyphOf}
 use Rattle.paper.specs.Cells.{cellWidth, cellHeight}
 use Rattle.paper.specs.Moves.{Moved}
@@ -17,7 +16,6 @@ use Rattle.laws_state.specs.Room.{Usable, Room, Kept}
 use Rattle.laws_state.proofs.Moves.{kept-room}
 use Rattle.glyphs.specs.declared.Cell.{Cell}
 use Rattle.glyphs.specs.Cell.{Drawable}
-use Rattle.glyphs.proofs.Parts.{length-bytes}
 use Rattle.cells.specs.Drawn.{drawn}
 use Rattle.moves.specs.declared.Spot.{Spot}
 use Rattle.moves.specs.Does.{Does}
@@ -27,10 +25,6 @@ use Rattle.text.specs.Inked.{Inked}
 pub sized-room : {g : Module} {v : View} (c : Cell) → Drawable g c → Room g v (c .columns) (c .rows)
     → Room g v (cellWidth g (c .blanks) (c .style)) (cellHeight (c .style))
 sized-room c k i = rw (k .columns, k .rows) at i
-
--- a font's glyph has as many columns as the module says
-pub font-columns : (g : Module) (font cols : List ℕ) (code : ℕ) → cols ≡ fontGlyph g font code → length cols ≡ g .glyph
-font-columns g font cols code e = ap length e ∙ length-bytes (g .glyph) _ font
 
 -- a cell drawn from equal columns
 pub drawn-from : {cols m′ : List ℕ} (g : Module) (f : Faces) (code w : ℕ) (y : Style) (q : Rect) (m : List ℕ) → cols ≡ glyphOf g f code

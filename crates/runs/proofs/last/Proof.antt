@@ -6,7 +6,7 @@ use Rattle.runs.proofs.last.Tie as tie
 
 push-requires : tie.Need-push-requires
 push-requires c κs =
-    let start = c .before .before .before .before .before in
+    let start = c .before .before .before .before .before .before in
     let v = start .args .p .view in
     (start .pre, last-cell (v .mode) (v .x) (start .args .cell .columns) (v .width) (c .before .if1 .taken))
 

@@ -4,6 +4,7 @@ use mathlib.Core.Path.{_∙_}
 use Prim.Native.Nat.{_+_, _-_, _<_}
 use native.Mathlib.Omega.{arith}
 use lib.ListN.{length}
+use Rattle.paper.specs.Downloads.{faces}
 use Rattle.paper.specs.Cells.{cellWidth, cellHeight}
 use Rattle.laws_state.proofs.Runs.{within-room}
 use Rattle.runs.specs.Runs.{drawnTo, Went}
@@ -12,24 +13,24 @@ use Rattle.runs.proofs.run.Statement.{statement}
 use Rattle.runs.proofs.run.Tie as tie
 
 abbrev Inv-loop : tie.InvT-loop
-Inv-loop g mem₀ font w piece from cell q₀ i₀ mem q i = Went g font (cell .blanks) (cell .style) q₀ mem₀ piece from (drawnTo q i) mem
+Inv-loop g mem₀ font own w piece from cell q₀ i₀ mem q i = Went g (faces font own) (cell .blanks) (cell .style) q₀ mem₀ piece from (drawnTo q i) mem
 
 abbrev μ-loop : tie.MeasureT-loop
-μ-loop g mem₀ font w piece from cell q₀ i₀ mem q i = length piece - i
+μ-loop g mem₀ font own w piece from cell q₀ i₀ mem q i = length piece - i
 
 loop-holds : tie.Need-loop-holds Inv-loop μ-loop
 loop-holds c =
-    let start = c .before .before .before .before in
+    let start = c .before .before .before .before .before in
     let a = start .args in
-    went-begin (a .g) (a .font .now) _ _ (a .p) (a .mem .now) (a .piece .now) (a .from) (start .pre .0 .1 .0 .place)
+    went-begin (a .g) (faces (a .font .now) (a .own .now)) _ _ (a .p) (a .mem .now) (a .piece .now) (a .from) (start .pre .0 .1 .0 .place)
     (start .pre .1 .0)
 
 returns : tie.Need-returns Inv-loop μ-loop
 returns c =
     let head = c .before .before .before in
-    let start = head .before .before .before .before .before in
+    let start = head .before .before .before .before .before .before in
     let a = start .args in
-    ran-stop (a .g) (a .font .now) (a .w) (a .style) (a .p) (a .mem .now) (a .piece .now) (a .from) (head .loop .q) (head .loop .mem)
+    ran-stop (a .g) (faces (a .font .now) (a .own .now)) (a .w) (a .style) (a .p) (a .mem .now) (a .piece .now) (a .from) (head .loop .q) (head .loop .mem)
     (head .loop .i) (rw (head .before .cell-of .ensures) at (head .loop .inv)) (omega arith) (start .pre .1 .1) (omega arith)
 
 -- a byte more can be counted
@@ -40,7 +41,7 @@ stretch-requires : tie.Need-stretch-requires Inv-loop μ-loop
 stretch-requires c κs =
     let head = c .before .before .before .before in
     let sized = head .before in
-    let start = sized .before .before .before .before in
+    let start = sized .before .before .before .before .before in
     let a = start .args in
     let k = head .loop .inv in
     let pre = start .pre .0 in
@@ -58,16 +59,16 @@ loop-again : tie.Need-loop-again Inv-loop μ-loop
 loop-again c =
     let stretched = c .before .before .before in
     let head = stretched .before .before .before .before .before in
-    let a = head .before .before .before .before .before .args in
-    went-on (a .g) (a .font .now) _ _ (a .p) (a .mem .now) (a .piece .now) (a .from) (head .loop .q) (head .loop .mem)
+    let a = head .before .before .before .before .before .before .args in
+    went-on (a .g) (faces (a .font .now) (a .own .now)) _ _ (a .p) (a .mem .now) (a .piece .now) (a .from) (head .loop .q) (head .loop .mem)
     (head .loop .i) (head .loop .inv) (stretched .stretch .ensures .1)
 
 returns-2 : tie.Need-returns-2 Inv-loop μ-loop
 returns-2 c =
     let head = c .before in
-    let start = head .before .before .before .before .before in
+    let start = head .before .before .before .before .before .before in
     let a = start .args in
-    ran-end (a .g) (a .font .now) (a .w) (a .style) (a .p) (a .mem .now) (a .piece .now) (a .from) (head .loop .q) (head .loop .mem)
+    ran-end (a .g) (faces (a .font .now) (a .own .now)) (a .w) (a .style) (a .p) (a .mem .now) (a .piece .now) (a .from) (head .loop .q) (head .loop .mem)
     (head .loop .i) (rw (head .before .cell-of .ensures) at (head .loop .inv)) (start .pre .1 .0) (omega arith)
 
 pub run-spec : {M : Type 1} → statement M

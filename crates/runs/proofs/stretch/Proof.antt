@@ -1,6 +1,7 @@
 -- `runs::stretch` meets its contract: a line, or one character. Assumes nothing.
 use borrow.Author.Needs.{needs}
 use native.Mathlib.Omega.{arith}
+use Rattle.paper.specs.Downloads.{faces}
 use Rattle.runs.proofs.Lines.{room-after}
 use Rattle.runs.proofs.Running.{went-begin, went-next}
 use Rattle.text.proofs.Steps.{sized-room}
@@ -9,7 +10,7 @@ use Rattle.runs.proofs.stretch.Tie as tie
 
 line-requires : tie.Need-line-requires
 line-requires c κs =
-    let start = c .before .before .before .before .before .before .before .before in
+    let start = c .before .before .before .before .before .before .before .before .before in
     let v = start .args .p .view in
     let cell = start .args .cell in
     let k = start .pre .1 in
@@ -17,7 +18,7 @@ line-requires c κs =
 
 last-requires : tie.Need-last-requires
 last-requires c κs =
-    let start = c .before .before .before .before .before .before .before .before .before in
+    let start = c .before .before .before .before .before .before .before .before .before .before in
     let pre = start .pre .0 in
     let inked = pre .1 .1 .0 in
     (pre .0, (pre .1 .0, (record { whole = inked .whole; has = start .pre .1 .1; cell = inked .cell }, pre .1 .1 .1)))
@@ -25,15 +26,16 @@ last-requires c κs =
 returns-2 : tie.Need-returns-2
 returns-2 c =
     let drawing = c .before .before in
-    let start = drawing .before .before .before .before .before .before .before .before .before .before in
+    let start = drawing .before .before .before .before .before .before .before .before .before .before .before in
     let a = start .args in
+    let font = faces (a .font .now) (a .own .now) in
     let w = a .cell .blanks in
     let y = a .cell .style in
     let room = start .pre .0 .1 .0 in
     let k = start .pre .1 in
-    let begun = went-begin (a .g) (a .font .now) w y (a .p) (a .mem .now) (a .piece .now) (a .from) (room .place) (k .0) in (
+    let begun = went-begin (a .g) font w y (a .p) (a .mem .now) (a .piece .now) (a .from) (room .place) (k .0) in (
       omega arith,
-      went-next (a .g) (a .font .now) w y (a .p) (a .mem .now) (a .piece .now) (a .from) (a .p) (a .mem .now) (a .from) begun
+      went-next (a .g) font w y (a .p) (a .mem .now) (a .piece .now) (a .from) (a .p) (a .mem .now) (a .from) begun
           (sized-room (a .cell) (start .pre .0 .1 .1 .0 .cell) room) (k .0) (k .1) (drawing .last .ensures) (drawing .last .kept .1 .0),
     )
 

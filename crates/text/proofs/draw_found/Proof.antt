@@ -6,8 +6,8 @@ use native.Mathlib.Omega.{arith}
 use borrow.Author.Needs.{needs}
 use lib.ListN.{length}
 use Rattle.paper.specs.Downloads.{faces}
-use Rattle.glyphs.proofs.Parts.{own-none, own-some}
-use Rattle.text.proofs.Steps.{font-columns, drawn-from}
+use Rattle.glyphs.proofs.Parts.{font-columns, own-none, own-some}
+use Rattle.text.proofs.Steps.{drawn-from}
 use Rattle.text.proofs.draw_found.Statement.{statement}
 use Rattle.text.proofs.draw_found.Tie as tie
 

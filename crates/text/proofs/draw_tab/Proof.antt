@@ -7,10 +7,10 @@ use lib.ListN.{length}
 use Rattle.paper.specs.Downloads.{faces, glyphOf}
 use Rattle.paper.specs.Cells.{cellWidth, cellHeight, drawStroke}
 use Rattle.paper.specs.Moves.{htOf, drawTab}
-use Rattle.glyphs.proofs.Parts.{font-alone}
+use Rattle.glyphs.proofs.Parts.{font-columns, font-alone}
 use Rattle.cells.specs.Drawn.{drawnAs, drawn}
 use Rattle.moves.proofs.Done.{does-stroke, does-after}
-use Rattle.text.proofs.Steps.{font-columns, drawn-from}
+use Rattle.text.proofs.Steps.{drawn-from}
 use Rattle.text.proofs.draw_tab.Statement.{statement}
 use Rattle.text.proofs.draw_tab.Tie as tie
 
