@@ -2,256 +2,229 @@
 use borrow.Author.Needs.{needs}
 use mathlib.Core.Path.{refl}
 use borrow.Author.Tests.{leb-true}
-use Rattle.paper.specs.declared.Command.the-variants.{Uncarried}
-use Rattle.paper.specs.Carry.{asks}
+use denote.Ref.{now}
+use Rattle.paper.specs.declared.Command.the-variants.{Character, Back, Tab, LineFeed, Home, Clear, Return, Select, Mode, Set, Enlarge, CursorSet, Define, Cancel, Uncarried}
+use Rattle.paper.specs.Numbers.{outcomeNumber}
+use Rattle.paper.specs.Downloads.{faces}
+use Rattle.paper.specs.Carry.{asks, leaves}
 use Rattle.laws_bytes.specs.Readings.{commandOk}
 use Rattle.laws_bytes.proofs.Tests.{between-facts}
-use Rattle.carry_state.proofs.Answers.{is-14}
+use Rattle.carry_state.proofs.Answers.{is-14, store-answered}
 use Rattle.carry_state.proofs.Facts.{selected-small}
 use Rattle.carry_dots.proofs.Wrote.{does-answer, does-quiet}
+use Rattle.carry.proofs.Kept.{kept, kept-quiet}
 use Rattle.carry.proofs.carry_out.Statement.{statement}
 use Rattle.carry.proofs.carry_out.Tie as tie
 
-is-held-requires : tie.Need-is-held-requires
-is-held-requires c κs = search needs
-
-enum-known-c : tie.Need-enum-known-c
-enum-known-c c = search needs
+-- ---- what each command asks
 
 character-requires : tie.Need-character-requires
 unfolding commandOk
-character-requires c κs = let start = c .before .before .before .before .before .before .before in
-    (start .pre .0, (start .pre .1 .0, leb-true 0x20 _ (rw (c .before .before .c .given .1) at (start .pre .1 .1))))
-
-enum-told : tie.Need-enum-told
-enum-told c = search needs
-
-back-requires : tie.Need-back-requires
-back-requires c κs = search needs
-
-enum-told-2 : tie.Need-enum-told-2
-enum-told-2 c = search needs
-
-tab-requires : tie.Need-tab-requires
-tab-requires c κs = search needs
-
-enum-told-3 : tie.Need-enum-told-3
-enum-told-3 c = search needs
-
-line-feed-requires : tie.Need-line-feed-requires
-line-feed-requires c κs = search needs
-
-enum-told-4 : tie.Need-enum-told-4
-enum-told-4 c = search needs
-
-home-requires : tie.Need-home-requires
-home-requires c κs = search needs
-
-enum-told-5 : tie.Need-enum-told-5
-enum-told-5 c = search needs
-
-clear-requires : tie.Need-clear-requires
-clear-requires c κs = search needs
-
-enum-told-6 : tie.Need-enum-told-6
-enum-told-6 c = search needs
-
-carriage-return-requires : tie.Need-carriage-return-requires
-carriage-return-requires c κs = search needs
-
-enum-known-c-2 : tie.Need-enum-known-c-2
-enum-known-c-2 c = search needs
-
-select-requires : tie.Need-select-requires
-select-requires c κs = search needs
-
-enum-told-7 : tie.Need-enum-told-7
-enum-told-7 c = search needs
-
-initialise-requires : tie.Need-initialise-requires
-initialise-requires c κs = search needs
-
-enum-known-c-3 : tie.Need-enum-known-c-3
-enum-known-c-3 c = search needs
+character-requires c κs =
+    let start = c .before .before .before .before .before .before .before .before .before in
+    (start .pre .0, (start .pre .1 .0, leb-true 0x20 _ (rw (c .before .before .before .c .given .1) at (start .pre .1 .1))))
 
 mode-requires : tie.Need-mode-requires
-mode-requires c κs = let start = c .before .before .before .before .before .before in
+mode-requires c κs =
+    let start = c .before .before .before .before .before .before .before in
     selected-small (start .args .g) (start .args .s) (start .pre .0 .state-ok)
-
-enum-known-c-4 : tie.Need-enum-known-c-4
-enum-known-c-4 c = search needs
-
-set-requires : tie.Need-set-requires
-set-requires c κs = search needs
-
-enum-known-c-5 : tie.Need-enum-known-c-5
-enum-known-c-5 c = search needs
 
 enlarge-requires : tie.Need-enlarge-requires
-enlarge-requires c κs = let start = c .before .before .before .before .before .before in
+enlarge-requires c κs =
+    let start = c .before .before .before .before .before .before .before in
     selected-small (start .args .g) (start .args .s) (start .pre .0 .state-ok)
-
-enum-known-c-6 : tie.Need-enum-known-c-6
-enum-known-c-6 c = search needs
 
 set-cursor-requires : tie.Need-set-cursor-requires
-set-cursor-requires c κs = let start = c .before .before .before .before .before .before in
+set-cursor-requires c κs =
+    let start = c .before .before .before .before .before .before .before in
     selected-small (start .args .g) (start .args .s) (start .pre .0 .state-ok)
-
-enum-known-c-7 : tie.Need-enum-known-c-7
-enum-known-c-7 c = search needs
 
 define-requires : tie.Need-define-requires
 unfolding commandOk
-define-requires c κs = let start = c .before .before .before .before .before .before in
+define-requires c κs =
+    let start = c .before .before .before .before .before .before .before in
     let f = between-facts 1 4 _ (rw (c .before .c7 .given .1) at (start .pre .1 .1)) in
     (c .before .before .before .is-held .ensures, f .0, f .1)
 
-enum-known-c-8 : tie.Need-enum-known-c-8
-enum-known-c-8 c = search needs
-
 cancel-requires : tie.Need-cancel-requires
 unfolding commandOk
-cancel-requires c κs = let start = c .before .before .before .before .before .before in
+cancel-requires c κs =
+    let start = c .before .before .before .before .before .before .before in
     let f = between-facts 1 4 _ (rw (c .before .c8 .given .1) at (start .pre .1 .1)) in
     (c .before .before .before .is-held .ensures, f .0, f .1)
 
-enum-told-8 : tie.Need-enum-told-8
-enum-told-8 c = search needs
-
-ends-requires : tie.Need-ends-requires
-ends-requires c κs = search needs
-
-same-length : tie.Need-same-length
-same-length c = search needs
+-- ---- what each command gives
 
 returns : tie.Need-returns
-returns c = rw (c .before .before .before .before .before .c .given .1) (c .before .before .character .ensures)
+unfolding leaves
+returns c =
+    let a = c .before .before .before .before .before .before .before .before .before .before .before .before .args in
+    let f = faces (now (a .font)) (now (a .store)) in
+    rw (c .before .before .before .before .before .before .c .given .1) (kept f (a .s) (Character _) refl (c .before .before .character .ensures))
 
 returns-2 : tie.Need-returns-2
-returns-2 c = let start = c .before .before .before .before .before .before in
-    rw (c .before .enum-told .given .1) (does-quiet (c .back .ensures (start .args .font .now)))
-
-same-length-2 : tie.Need-same-length-2
-same-length-2 c = search needs
+unfolding leaves
+returns-2 c =
+    let a = c .before .before .before .before .before .before .before .args in
+    let f = faces (now (a .font)) (now (a .store)) in
+    rw (c .before .enum-told .given .1) (kept-quiet f (a .s) Back refl (c .back .ensures f))
 
 returns-3 : tie.Need-returns-3
-returns-3 c = let start = c .before .before .before .before .before .before .before .before .before in
-    rw (c .before .before .before .before .enum-told2 .given .1) (c .before .before .tab .ensures (start .args .font .now))
-
-same-length-3 : tie.Need-same-length-3
-same-length-3 c = search needs
+unfolding leaves
+returns-3 c =
+    let a = c .before .before .before .before .before .before .before .before .before .before .args in
+    let f = faces (now (a .font)) (now (a .store)) in
+    rw (c .before .before .before .before .enum-told2 .given .1) (kept f (a .s) Tab refl (c .before .before .tab .ensures f))
 
 returns-4 : tie.Need-returns-4
-returns-4 c = let start = c .before .before .before .before .before .before .before .before .before in
-    rw (c .before .before .before .before .enum-told3 .given .1) (c .before .before .line-feed .ensures (start .args .font .now))
+unfolding leaves
+returns-4 c =
+    let a = c .before .before .before .before .before .before .before .before .before .before .args in
+    let f = faces (now (a .font)) (now (a .store)) in
+    rw (c .before .before .before .before .enum-told3 .given .1) (kept f (a .s) LineFeed refl (c .before .before .line-feed .ensures f))
 
 returns-5 : tie.Need-returns-5
-returns-5 c = let start = c .before .before .before .before .before .before in
-    rw (c .before .enum-told4 .given .1) (does-quiet (c .home .ensures (start .args .font .now)))
-
-same-length-4 : tie.Need-same-length-4
-same-length-4 c = search needs
+unfolding leaves
+returns-5 c =
+    let a = c .before .before .before .before .before .before .before .args in
+    let f = faces (now (a .font)) (now (a .store)) in
+    rw (c .before .enum-told4 .given .1) (kept-quiet f (a .s) Home refl (c .home .ensures f))
 
 returns-6 : tie.Need-returns-6
-returns-6 c = let start = c .before .before .before .before .before .before .before .before .before in
-    rw (c .before .before .before .before .enum-told5 .given .1) (c .before .before .clear .ensures (start .args .font .now))
+unfolding leaves
+returns-6 c =
+    let a = c .before .before .before .before .before .before .before .before .before .before .args in
+    let f = faces (now (a .font)) (now (a .store)) in
+    rw (c .before .before .before .before .enum-told5 .given .1) (kept f (a .s) Clear refl (c .before .before .clear .ensures f))
 
 returns-7 : tie.Need-returns-7
-returns-7 c = let start = c .before .before .before .before .before .before in
-    rw (c .before .enum-told6 .given .1) (does-quiet (c .carriage-return .ensures (start .args .font .now)))
+unfolding leaves
+returns-7 c =
+    let a = c .before .before .before .before .before .before .before .args in
+    let f = faces (now (a .font)) (now (a .store)) in
+    rw (c .before .enum-told6 .given .1) (kept-quiet f (a .s) Return refl (c .carriage-return .ensures f))
 
 returns-8 : tie.Need-returns-8
-returns-8 c = let start = c .before .before .before .before .before .before .before in
-    rw (c .before .before .c2 .given .1) (does-quiet (c .select .ensures (start .args .font .now)))
-
-same-length-5 : tie.Need-same-length-5
-same-length-5 c = search needs
+unfolding leaves
+returns-8 c =
+    let a = c .before .before .before .before .before .before .before .before .args in
+    let f = faces (now (a .font)) (now (a .store)) in
+    rw (c .before .before .c2 .given .1) (kept-quiet f (a .s) (Select _) refl (c .select .ensures f))
 
 returns-9 : tie.Need-returns-9
-returns-9 c = let start = c .before .before .before .before .before .before .before .before .before in
-    rw (c .before .before .before .before .enum-told7 .given .1) (c .before .before .initialise .ensures (start .args .font .now))
+returns-9 c =
+    rw (c .before .before .before .before .before .before .before .enum-told7 .given .1)
+    (c .before .before .before .before .initialise .ensures (now (c .before .before .before .before .before .before .before .before .before .before .before .before .before .args .font)))
 
 returns-10 : tie.Need-returns-10
-returns-10 c = let start = c .before .before .before .before .before .before .before in
-    rw (c .before .before .c3 .given .1) (does-quiet (c .mode .ensures (start .args .font .now)))
+unfolding leaves
+returns-10 c =
+    let a = c .before .before .before .before .before .before .before .before .args in
+    let f = faces (now (a .font)) (now (a .store)) in
+    rw (c .before .before .c3 .given .1) (kept-quiet f (a .s) (Mode _) refl (c .mode .ensures f))
 
 returns-11 : tie.Need-returns-11
-returns-11 c = let start = c .before .before .before .before .before .before .before in
-    rw (c .before .before .c4 .given .1) (does-quiet (c .set .ensures (start .args .font .now)))
+unfolding leaves
+returns-11 c =
+    let a = c .before .before .before .before .before .before .before .before .args in
+    let f = faces (now (a .font)) (now (a .store)) in
+    rw (c .before .before .c4 .given .1) (kept-quiet f (a .s) (Set _ _) refl (c .set .ensures f))
 
 returns-12 : tie.Need-returns-12
-returns-12 c = let start = c .before .before .before .before .before .before .before in
-    rw (c .before .before .c5 .given .1) (does-quiet (c .enlarge .ensures (start .args .font .now)))
+unfolding leaves
+returns-12 c =
+    let a = c .before .before .before .before .before .before .before .before .args in
+    let f = faces (now (a .font)) (now (a .store)) in
+    rw (c .before .before .c5 .given .1) (kept-quiet f (a .s) (Enlarge _ _) refl (c .enlarge .ensures f))
 
 returns-13 : tie.Need-returns-13
-returns-13 c = let start = c .before .before .before .before .before .before .before in
-    rw (c .before .before .c6 .given .1) (does-quiet (c .set-cursor .ensures (start .args .font .now)))
+unfolding leaves
+returns-13 c =
+    let a = c .before .before .before .before .before .before .before .before .args in
+    let f = faces (now (a .font)) (now (a .store)) in
+    rw (c .before .before .c6 .given .1) (kept-quiet f (a .s) (CursorSet _ _) refl (c .set-cursor .ensures f))
 
 returns-14 : tie.Need-returns-14
-returns-14 c = let start = c .before .before .before .before .before .before .before in
-    rw (c .before .before .c7 .given .1) (does-quiet (c .define .ensures (start .args .font .now)))
+unfolding leaves
+returns-14 c =
+    let a = c .before .before .before .before .before .before .before .before .args in
+    let f = faces (now (a .font)) (now (a .store)) in
+    rw (c .before .before .c7 .given .1) (kept-quiet f (a .s) (Define _ _ _ _ _) refl (c .define .ensures f))
 
 returns-15 : tie.Need-returns-15
-returns-15 c = let start = c .before .before .before .before .before .before .before in
-    rw (c .before .before .c8 .given .1) (does-quiet (c .cancel .ensures (start .args .font .now)))
+unfolding leaves
+returns-15 c =
+    let a = c .before .before .before .before .before .before .before .before .args in
+    let f = faces (now (a .font)) (now (a .store)) in
+    rw (c .before .before .c8 .given .1) (kept-quiet f (a .s) (Cancel _) refl (c .cancel .ensures f))
 
 returns-16 : tie.Need-returns-16
-unfolding asks
-returns-16 c = let start = c .before .before .before .before .before .before in
-    rw (c .before .enum-told8 .given .1)
-    (does-answer (c .ends .ensures) (is-14 (start .args .g) (start .args .font .now) (start .args .s) Uncarried refl))
+unfolding asks outcomeNumber
+returns-16 c =
+    let a = c .before .before .before .before .before .before .before .args in
+    let f = faces (now (a .font)) (now (a .store)) in
+    let e = is-14 (a .g) f (a .s) Uncarried refl in
+    rw (c .before .enum-told8 .given .1) (does-answer (c .ends .ensures) e, store-answered (a .g) f (a .s) Uncarried e refl)
+
+returns-17 : tie.Need-returns-17
+returns-17 c =
+    let d = c .before .before .erase .ensures (now (c .before .before .before .before .before .before .before .before .before .before .before .args .font)) in
+    rw (c .before .before .before .before .before .c9 .given .1) (does-quiet (d .says), d .store)
 
 pub carry-out-spec : {M : Type 1} → statement M
 carry-out-spec =
     tie.close
     (tie.spec
-    is-held-requires
-    enum-known-c
+    (λ c κs. search needs)
+    (λ c. search needs)
     character-requires
-    enum-told
-    back-requires
-    enum-told-2
-    tab-requires
-    enum-told-3
-    line-feed-requires
-    enum-told-4
-    home-requires
-    enum-told-5
-    clear-requires
-    enum-told-6
-    carriage-return-requires
-    enum-known-c-2
-    select-requires
-    enum-told-7
-    initialise-requires
-    enum-known-c-3
+    (λ c. search needs)
+    (λ c κs. search needs)
+    (λ c. search needs)
+    (λ c κs. search needs)
+    (λ c. search needs)
+    (λ c κs. search needs)
+    (λ c. search needs)
+    (λ c κs. search needs)
+    (λ c. search needs)
+    (λ c κs. search needs)
+    (λ c. search needs)
+    (λ c κs. search needs)
+    (λ c. search needs)
+    (λ c κs. search needs)
+    (λ c. search needs)
+    (λ c κs. search needs)
+    (λ c. search needs)
     mode-requires
-    enum-known-c-4
-    set-requires
-    enum-known-c-5
+    (λ c. search needs)
+    (λ c κs. search needs)
+    (λ c. search needs)
     enlarge-requires
-    enum-known-c-6
+    (λ c. search needs)
     set-cursor-requires
-    enum-known-c-7
+    (λ c. search needs)
     define-requires
-    enum-known-c-8
+    (λ c. search needs)
     cancel-requires
-    enum-told-8
-    ends-requires
-    same-length
+    (λ c. search needs)
+    (λ c κs. search needs)
+    (λ c. search needs)
+    (λ c κs. search needs)
+    (λ c. search needs)
+    (λ c. search needs)
     returns
     returns-2
-    same-length-2
+    (λ c. search needs)
     returns-3
-    same-length-3
+    (λ c. search needs)
     returns-4
     returns-5
-    same-length-4
+    (λ c. search needs)
     returns-6
     returns-7
     returns-8
-    same-length-5
+    (λ c. search needs)
+    (λ c. search needs)
     returns-9
     returns-10
     returns-11
@@ -259,4 +232,6 @@ carry-out-spec =
     returns-13
     returns-14
     returns-15
-    returns-16)
+    returns-16
+    (λ c. search needs)
+    returns-17)

@@ -46,7 +46,7 @@ returns c font = let start = c .before .before .before .before .before .before .
     let s = start .args .s in
     does-move s (clearOf (viewOf (start .args .g) s)) (rw (c .before .before .before .before .before .before .spot-of .ensures) at (c .before .before .before .before .clear .ensures))
     (ends-at (c .ends .ensures) (c .before .settle .ensures))
-    (is-10 (start .args .g) font s Clear (record { carried = refl; owner = refl; domain = refl; defined = refl; room = refl }))
+    (is-10 (start .args .g) font s Clear (record { carried = refl; owner = refl; domain = refl; defined = refl; room = refl; stored = refl }))
 
 pub clear-spec : {M : Type 1} → statement M
 clear-spec =

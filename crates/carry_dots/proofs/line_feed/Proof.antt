@@ -80,7 +80,7 @@ returns-2 c font =
     does-move s (lineFeedOf g v (heightNow s))
     (rw (sized .before .spot-of .ensures, sized .cell-now .ensures) at (moved .line-feed .ensures))
     (ends-at (c .ends2 .ensures) (c .before .settle .ensures))
-    (is-10 g font s LineFeed (record { carried = refl; owner = refl; domain = refl; defined = refl; room = fits left }))
+    (is-10 g font s LineFeed (record { carried = refl; owner = refl; domain = refl; defined = refl; room = fits left; stored = refl }))
 
 pub line-feed-spec : {M : Type 1} → statement M
 line-feed-spec =

@@ -79,7 +79,7 @@ returns-2 c font =
     does-move s (htOf g v (widthNow g s) (heightNow s))
     (rw (sized .before .spot-of .ensures, sized .cell-now .ensures) at (moved .tab .ensures))
     (ends-at (c .ends2 .ensures) (c .before .settle .ensures))
-    (is-10 g font s Tab (record { carried = refl; owner = refl; domain = refl; defined = refl; room = fits left }))
+    (is-10 g font s Tab (record { carried = refl; owner = refl; domain = refl; defined = refl; room = fits left; stored = refl }))
 
 pub tab-spec : {M : Type 1} → statement M
 tab-spec =

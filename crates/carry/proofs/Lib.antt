@@ -1,0 +1,2 @@
+-- The law of what a command leaves alone.
+pub mod Kept
