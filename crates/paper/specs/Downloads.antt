@@ -3,11 +3,11 @@
 use Prim.Native.Nat.{ℕ, zero, suc, _+_, _*_, _/_, _%_}
 use mathlib.Core.Bool.{Bool, cond, not, _&&_}
 use mathlib.Core.List.{List, [], _∷_}
-use lib.ListN.{length, getD, take, drop, replicate}
+use lib.ListN.{length, getD, replicate}
 use lib.Dec.{ltb, eqb}
 use Rattle.paper.specs.declared.Module.{Module}
 use Rattle.paper.specs.declared.Columns.{Columns}
-use Rattle.paper.specs.Panel.{each, fontGlyph}
+use Rattle.paper.specs.Panel.{each, bytesFrom, fontGlyph}
 
 -- ---- the places
 
@@ -100,7 +100,7 @@ inForce switch f = faces (f .font) (cond (eqb switch 1) (f .store) [])
 
 -- the columns of the download in place k: "5 columns" or "7 columns"
 abbrev pub ownGlyph : List ℕ → ℕ → List ℕ
-ownGlyph ds k = take (cond (eqb (widthAt ds k) 5) 5 7) (drop (placeLength * k + 2) ds)
+ownGlyph ds k = bytesFrom (cond (eqb (widthAt ds k) 5) 5 7) (placeLength * k + 2) ds
 
 -- the columns of a code: its download's where it is stored, else the font's
 unfoldable pub glyphOf : Module → Faces → ℕ → List ℕ

@@ -1,9 +1,9 @@
 -- Document 01, "The panel and its memory": sizes, addresses, the dots of a byte, the font's glyphs.
 -- Every rule is over a module; `panel` is the 112 by 16 one. Assumes nothing.
-use Prim.Native.Nat.{ℕ, suc, _+_, _*_, _-_, _/_, _%_, _^_}
+use Prim.Native.Nat.{ℕ, zero, suc, _+_, _*_, _-_, _/_, _%_, _^_}
 use mathlib.Core.Bool.{Bool, true, false, not, _&&_, _||_}
 use mathlib.Core.List.{List, [], _∷_}
-use lib.ListN.{length, getD, take, drop}
+use lib.ListN.{length, getD}
 use lib.Dec.{ltb, eqb}
 use Rattle.paper.specs.declared.Module.{Module}
 
@@ -64,9 +64,14 @@ unfoldable pub byteOf : (ℕ → Bool) → ℕ
 byteOf d =
     lit 128 (d 0) + lit 64 (d 1) + lit 32 (d 2) + lit 16 (d 3) + lit 8 (d 4) + lit 4 (d 5) + lit 2 (d 6) + lit 1 (d 7)
 
+-- the n bytes from place i on
+abbrev pub bytesFrom : ℕ → ℕ → List ℕ → List ℕ
+bytesFrom zero i l = []
+bytesFrom (suc n) i l = getD l i 0 ∷ bytesFrom n (suc i) l
+
 -- "5 columns for each code 20h to FFh, leftmost first": a code's columns
 abbrev pub fontGlyph : Module → List ℕ → ℕ → List ℕ
-fontGlyph g font code = take (g .glyph) (drop (g .glyph * (code - 0x20)) font)
+fontGlyph g font code = bytesFrom (g .glyph) (g .glyph * (code - 0x20)) font
 
 -- whether a glyph, given by its columns, is framed by blanks: on a module that frames its font's glyphs, one with as many columns as
 -- they have ("5 columns draw like a font glyph", document 02, order 2)
