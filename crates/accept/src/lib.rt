@@ -1,8 +1,8 @@
-// Whether a state record is accepted: number 8 of document 01, over every field of it.
+// Whether a state record is accepted: number 8 of document 01, over every field of it and over its downloads.
 // It tests the record alone: memory, font and glass are not in it.
-// It uses accept_settings, accept_windows and accept_half for those parts; the hold's and the spans' tests stand here.
+// It uses accept_settings, accept_windows, accept_half and accept_store for those parts; the hold's and the spans' tests stand here.
 ghost use mathlib.Core.Path.{_≡_};
-ghost use Rattle.paper.specs.Bounds.{holdOk, spanOk, spansOk, accepted};
+ghost use Rattle.paper.specs.Bounds.{holdOk, spanOk, spansOk, stateOk, accepted};
 use paper::Hold;
 use paper::Module;
 use paper::Span;
@@ -42,9 +42,9 @@ fn spans_ok(g: Module, ps: Spans) -> bool
     span_ok(g, ps[0]) & span_ok(g, ps[1])
 }
 
-// Whether the record keeps every bound of document 01.
-pub fn is_accepted(g: Module, s: State) -> bool
-    ensures { λ r. ⌜ r ≡ accepted g s ⌝ }
+// Whether the state, its downloads aside, keeps every bound.
+fn state_ok(g: Module, s: State) -> bool
+    ensures { λ r. ⌜ r ≡ stateOk g s ⌝ }
 {
     let settings = s.settings;
     let windows = s.windows;
@@ -60,4 +60,13 @@ pub fn is_accepted(g: Module, s: State) -> bool
         & hold_ok(g, windows, selected, hold)
         & accept_half::half_ok(g, half)
         & spans_ok(g, spans)
+}
+
+// Whether the record, a state and its downloads, keeps every bound.
+pub fn is_accepted(g: Module, s: State, ds: &[u8]) -> bool
+    ensures { λ r. ⌜ r ≡ accepted g s (now (ds .entry)) ⌝ }
+{
+    let hold = s.hold;
+    let half = s.half;
+    state_ok(g, s) & (accept_store::store_ok(ds) & accept_store::define_ok(ds, hold, half))
 }

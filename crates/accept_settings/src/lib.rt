@@ -23,6 +23,7 @@ pub fn in_domain(g: Module, key: Key, n: u8) -> bool
         Key::Mixing => n <= 3,
         Key::Width => n <= 1,
         Key::Write => n <= 1,
+        Key::Switch => n <= 1,
     }
 }
 
@@ -45,6 +46,7 @@ pub fn settings_ok(g: Module, v: Settings) -> bool
         & in_domain(g, Key::Speed, v.speed)
         & in_domain(g, Key::Width, v.width)
         & in_domain(g, Key::Write, v.write)
+        & in_domain(g, Key::Switch, v.switch)
         & in_domain(g, Key::Reverse, y.reverse)
         & in_domain(g, Key::Mixing, y.mixing)
         & in_enlargement(y.across, y.down)

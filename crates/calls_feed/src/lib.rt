@@ -11,6 +11,7 @@ ghost use mathlib.Core.Path.{_≡_};
 ghost use mathlib.Core.List.{[]};
 ghost use lib.ListN.{length};
 ghost use Rattle.paper.specs.Panel.{fontLength};
+ghost use Rattle.paper.specs.Downloads.{storeLength};
 ghost use Rattle.paper.specs.Calls.{run, fedNothing, feedCall};
 ghost use Rattle.laws_state.specs.Room.{Usable};
 ghost use Rattle.laws_state.specs.Told.{fed};
@@ -18,7 +19,7 @@ ghost use Rattle.carry_dots.specs.Does.{Ready};
 
 // An answer that has fed nothing: a refusal, or the beginning of a piece.
 fn fed_nothing(refusal: Refusal, state: State) -> Fed
-    ensures { λ r. ⌜ r ≡ fedNothing refusal state [] .answer ⌝ }
+    ensures { λ r. ⌜ r ≡ fedNothing refusal state [] [] .answer ⌝ }
 {
     Fed {
         refusal,
@@ -51,6 +52,7 @@ fn apart(s: State) -> State
                 speed: settings.speed,
                 width: settings.width,
                 write: settings.write,
+                switch: settings.switch,
                 style,
             };
             let hold = Hold::Held {
@@ -64,14 +66,15 @@ fn apart(s: State) -> State
 }
 
 // The whole piece.
-fn feed_all(g: Module, mem: &mut [u8], font: &[u8], piece: &[u8], s: State) -> Fed
-    requires { ⌜ Ready g s (now mem) × (length (now font) ≡ fontLength g) ⌝ }
-    ensures { λ r. ⌜ fed r (now (mem .exit)) ≡ run g (now (font .entry)) (fedNothing Refusal.Accepted s (now (mem .entry))) (now (piece .entry)) ⌝ }
+fn feed_all(g: Module, mem: &mut [u8], store: &mut [u8], font: &[u8], piece: &[u8], s: State) -> Fed
+    requires { ⌜ Ready g s (now mem) × ((length (now font) ≡ fontLength g) × (length (now store) ≡ storeLength)) ⌝ }
+    ensures { λ r. ⌜ fed r (now (mem .exit)) (now (store .exit))
+        ≡ run g (now (font .entry)) (fedNothing Refusal.Accepted s (now (store .entry)) (now (mem .entry))) (now (piece .entry)) ⌝ }
 {
     let mut f = fed_nothing(Refusal::Accepted, apart(s));
     let mut i = 0;
     while i < piece.len() {
-        let t = turns::feed_some(g, mem, font, piece, f, i);
+        let t = turns::feed_some(g, mem, store, font, piece, f, i);
         f = t.fed;
         i = t.at;
     }
@@ -79,9 +82,10 @@ fn feed_all(g: Module, mem: &mut [u8], font: &[u8], piece: &[u8], s: State) -> F
 }
 
 // A piece of the stream. 1: the memory has not its length; 2: the font has not; 8: the state breaks a bound.
-pub fn feed(g: Module, mem: &mut [u8], font: &[u8], piece: &[u8], s: State) -> Fed
+pub fn feed(g: Module, mem: &mut [u8], store: &mut [u8], font: &[u8], piece: &[u8], s: State) -> Fed
     requires { ⌜ Usable g × (g .rows ≡ 2) ⌝ }
-    ensures { λ r. ⌜ fed r (now (mem .exit)) ≡ feedCall g (now (font .entry)) s (now (mem .entry)) (now (piece .entry)) ⌝ }
+    ensures { λ r. ⌜ fed r (now (mem .exit)) (now (store .exit))
+        ≡ feedCall g (now (font .entry)) s (now (store .entry)) (now (mem .entry)) (now (piece .entry)) ⌝ }
 {
     if mem.len() != modules::memory_length(g) {
         return fed_nothing(Refusal::MemoryLength, s);
@@ -89,8 +93,8 @@ pub fn feed(g: Module, mem: &mut [u8], font: &[u8], piece: &[u8], s: State) -> F
     if font.len() != modules::font_length(g) {
         return fed_nothing(Refusal::FontLength, s);
     }
-    if accept::is_accepted(g, s) {
-        return feed_all(g, mem, font, piece, s);
+    if accept::is_accepted(g, s, store) {
+        return feed_all(g, mem, store, font, piece, s);
     }
     fed_nothing(Refusal::BrokenState, s)
 }

@@ -1,6 +1,7 @@
-// Start and refresh, for any usable module: what is refused, in its order, and the memory and the glass that each leaves.
-// It may use modules for the lengths, state for the initial one, accept for the state's test, dots for the memory and
-// glass for what is copied to the glass.
+// Start and refresh, for any usable module: what is refused, in its order, and the memory, the downloads and the glass that each
+// leaves.
+// It may use modules for the lengths, state for the initial one, accept for the state's test, dots for the memory, downloads for
+// their end and glass for what is copied to the glass.
 use paper::Answer;
 use paper::Module;
 use paper::Refreshed;
@@ -12,11 +13,12 @@ ghost use Rattle.paper.specs.Calls.{startCall, refreshing, refreshCall};
 ghost use Rattle.laws_state.specs.Room.{Usable};
 ghost use Rattle.laws_state.specs.Told.{started, refreshed};
 
-// The initial state, the memory zeroed and all of it marked as written. 1: the memory has not its length.
-pub fn start(g: Module, mem: &mut [u8]) -> Answer
+// The initial state with no download, the memory zeroed and all of it marked as written. 1: the memory has not its length.
+pub fn start(g: Module, mem: &mut [u8], store: &mut [u8]) -> Answer
     requires { ⌜ Usable g × (g .rows ≡ 2) ⌝ }
-    ensures { λ r. ⌜ started r (now (mem .exit)) ≡ startCall g (now (mem .entry)) ⌝ }
+    ensures { λ r. ⌜ started r (now (mem .exit)) (now (store .exit)) ≡ startCall g (now (mem .entry)) (now (store .entry)) ⌝ }
 {
+    downloads::erase_all(store);
     let t = state::initial_state(g);
     if mem.len() != modules::memory_length(g) {
         return Answer {
@@ -45,9 +47,9 @@ fn moves(refusal: Refusal, state: State, moved: usize) -> Refreshed
 }
 
 // Brings the glass in step. 1: the memory has not its length; 3: the glass has not; 8: the state breaks a bound.
-pub fn refresh(g: Module, mem: &[u8], glass: &mut [u8], s: State) -> Refreshed
+pub fn refresh(g: Module, store: &[u8], mem: &[u8], glass: &mut [u8], s: State) -> Refreshed
     requires { ⌜ Usable g × (g .rows ≡ 2) ⌝ }
-    ensures { λ r. ⌜ refreshed r (now (glass .exit)) ≡ refreshCall g s (now (mem .entry)) (now (glass .entry)) ⌝ }
+    ensures { λ r. ⌜ refreshed r (now (glass .exit)) ≡ refreshCall g s (now (store .entry)) (now (mem .entry)) (now (glass .entry)) ⌝ }
 {
     if mem.len() != modules::memory_length(g) {
         return moves(Refusal::MemoryLength, s, 0);
@@ -55,7 +57,7 @@ pub fn refresh(g: Module, mem: &[u8], glass: &mut [u8], s: State) -> Refreshed
     if glass.len() != modules::glass_length(g) {
         return moves(Refusal::GlassLength, s, 0);
     }
-    if accept::is_accepted(g, s) {
+    if accept::is_accepted(g, s, store) {
         let spans = s.spans;
         let moved = glass::refresh(g, mem, glass, spans);
         let state = State {

@@ -48,10 +48,10 @@ fn held_by(s: State, k: u8) -> State
 }
 
 // Holds user window k. 8: the state breaks a bound; 6: a window is held; 4: k is not 1 to 4; 5: window k is not defined.
-pub fn hold(g: Module, s: State, k: usize) -> Answer
-    ensures { λ r. ⌜ r ≡ holdCall g s k ⌝ }
+pub fn hold(g: Module, store: &[u8], s: State, k: usize) -> Answer
+    ensures { λ r. ⌜ r ≡ holdCall g s (now (store .entry)) k ⌝ }
 {
-    if !accept::is_accepted(g, s) {
+    if !accept::is_accepted(g, s, store) {
         return answers(Refusal::BrokenState, s);
     }
     let h = s.hold;
@@ -92,10 +92,10 @@ fn put_back(s: State, h: Hold) -> State
 }
 
 // Releases the held window. 8: the state breaks a bound; 7: no window is held.
-pub fn release(g: Module, s: State) -> Answer
-    ensures { λ r. ⌜ r ≡ releaseCall g s ⌝ }
+pub fn release(g: Module, store: &[u8], s: State) -> Answer
+    ensures { λ r. ⌜ r ≡ releaseCall g s (now (store .entry)) ⌝ }
 {
-    if !accept::is_accepted(g, s) {
+    if !accept::is_accepted(g, s, store) {
         return answers(Refusal::BrokenState, s);
     }
     let h = s.hold;

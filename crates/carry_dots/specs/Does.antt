@@ -8,7 +8,7 @@ use Rattle.paper.specs.declared.State.{State}
 use Rattle.paper.specs.declared.Span.{Span}
 use Rattle.paper.specs.declared.Style.{Style}
 use Rattle.paper.specs.Strokes.{applyAll, markAll}
-use Rattle.paper.specs.Bounds.{accepted}
+use Rattle.paper.specs.Bounds.{stateOk}
 use Rattle.paper.specs.Carry.{Meaning, imageStrokes}
 use Rattle.paper.specs.Calls.{settled}
 use Rattle.laws_memory.specs.Rectangles.{Fits}
@@ -20,7 +20,7 @@ use Rattle.carry_state.specs.declared.Done.{Done}
 pub record Ready (g : Module) (s : State) (m : List ℕ) : Type 0 where
   pub usable : Usable g
   pub two-rows : g .rows ≡ 2
-  pub state-ok : accepted g s ≡ true
+  pub state-ok : stateOk g s ≡ true
   pub fits : Fits g m
 
 -- from a memory: the state that the meaning leaves, its outcome, and the memory that its strokes leave

@@ -1,6 +1,6 @@
 // Carrying out what writes: the commands that write on memory, and an image's byte, each with the answers 15 and 16 that it can have.
-// It may use carry_state for the answer's form, state and state_views for the state's parts, and moves, moves_tab, text, cells, dots
-// and spans for what is written.
+// It may use carry_state for the answer's form, state and state_views for the state's parts, moves, moves_tab, text, cells, dots and
+// spans for what is written, and downloads for those in force and for their end.
 // Each contract says that what was done is what the paper's meaning says.
 use carry_state::Done;
 use moves::Spot;
@@ -16,8 +16,9 @@ ghost use mathlib.Core.List.{List};
 ghost use Prim.Native.Nat.{ℕ, _+_, _≤_, _<_};
 ghost use lib.ListN.{length};
 ghost use Rattle.paper.specs.Panel.{fontLength};
+ghost use Rattle.paper.specs.Downloads.{storeLength, Faces, faces};
 ghost use Rattle.paper.specs.Settings.{withView, withSpans, viewOf};
-ghost use Rattle.paper.specs.Carry.{isHeld, commandOf};
+ghost use Rattle.paper.specs.Carry.{isHeld, commandOf, commandStore};
 ghost use Rattle.moves.specs.Does.{spot};
 ghost use Rattle.laws_memory.specs.Rectangles.{Fits};
 ghost use Rattle.laws_state.specs.Room.{Usable, InMemory};
@@ -45,24 +46,27 @@ pub fn settle(s: State, p: Spot) -> State
     State { spans, ..t }
 }
 
-// A character.
-pub fn character(g: Module, mem: &mut [u8], font: &[u8], s: State, code: u8) -> Done
-    requires { ⌜ Ready g s (now mem) × ((length (now font) ≡ fontLength g) × (0x20 ≤ code)) ⌝ }
-    ensures { λ r. ⌜ Does g (now (mem .entry)) r (now (mem .exit)) (commandOf g (now (font .entry)) s (Command.Character code)) ⌝ }
+// A character, drawn from the downloads too while they are switched on.
+pub fn character(g: Module, mem: &mut [u8], font: &[u8], store: &[u8], s: State, code: u8) -> Done
+    requires { ⌜ Ready g s (now mem) × ((length (now font) ≡ fontLength g) × ((length (now store) ≡ storeLength) × (0x20 ≤ code))) ⌝ }
+    ensures { λ r. ⌜ Does g (now (mem .entry)) r (now (mem .exit))
+        (commandOf g (faces (now (font .entry)) (now (store .entry))) s (Command.Character code)) ⌝ }
 {
     let p = spot_of(g, s);
     let cell = carry_state::cell_now(g, s);
     if carry_state::is_too_large(p.view, cell) {
         return carry_state::ends(s, Outcome::TooLarge);
     }
-    let q = text::character(g, mem, font, p, cell, code);
+    let v = s.settings;
+    let own = downloads::in_force(store, v.switch);
+    let q = text::character(g, mem, font, own, p, cell, code);
     carry_state::ends(settle(s, q), Outcome::Carried)
 }
 
 // HT.
 pub fn tab(g: Module, mem: &mut [u8], s: State) -> Done
     requires { ⌜ Ready g s (now mem) ⌝ }
-    ensures { λ r. ⌜ ((font : List ℕ) → Does g (now (mem .entry)) r (now (mem .exit)) (commandOf g font s Command.Tab)) ⌝ }
+    ensures { λ r. ⌜ ((font : Faces) → Does g (now (mem .entry)) r (now (mem .exit)) (commandOf g font s Command.Tab)) ⌝ }
 {
     let p = spot_of(g, s);
     let cell = carry_state::cell_now(g, s);
@@ -76,7 +80,7 @@ pub fn tab(g: Module, mem: &mut [u8], s: State) -> Done
 // LF.
 pub fn line_feed(g: Module, mem: &mut [u8], s: State) -> Done
     requires { ⌜ Ready g s (now mem) ⌝ }
-    ensures { λ r. ⌜ ((font : List ℕ) → Does g (now (mem .entry)) r (now (mem .exit)) (commandOf g font s Command.LineFeed)) ⌝ }
+    ensures { λ r. ⌜ ((font : Faces) → Does g (now (mem .entry)) r (now (mem .exit)) (commandOf g font s Command.LineFeed)) ⌝ }
 {
     let p = spot_of(g, s);
     let cell = carry_state::cell_now(g, s);
@@ -90,23 +94,25 @@ pub fn line_feed(g: Module, mem: &mut [u8], s: State) -> Done
 // CLR.
 pub fn clear(g: Module, mem: &mut [u8], s: State) -> Done
     requires { ⌜ Ready g s (now mem) ⌝ }
-    ensures { λ r. ⌜ ((font : List ℕ) → Does g (now (mem .entry)) r (now (mem .exit)) (commandOf g font s Command.Clear)) ⌝ }
+    ensures { λ r. ⌜ ((font : Faces) → Does g (now (mem .entry)) r (now (mem .exit)) (commandOf g font s Command.Clear)) ⌝ }
 {
     let p = spot_of(g, s);
     let q = moves::clear(g, mem, p);
     carry_state::ends(settle(s, q), Outcome::Carried)
 }
 
-// Initialise: the initial state, and all of memory zeroed.
-pub fn initialise(g: Module, mem: &mut [u8], s: State, held: bool) -> Done
+// Initialise: the initial state, all of memory zeroed, and every download erased.
+pub fn initialise(g: Module, mem: &mut [u8], store: &mut [u8], s: State, held: bool) -> Done
     requires { ⌜ Ready g s (now mem) × (held ≡ isHeld (s .hold)) ⌝ }
-    ensures { λ r. ⌜ ((font : List ℕ) → Does g (now (mem .entry)) r (now (mem .exit)) (commandOf g font s Command.Initialise)) ⌝ }
+    ensures { λ r. ⌜ ((font : Faces) → Does g (now (mem .entry)) r (now (mem .exit)) (commandOf g font s Command.Initialise))
+        × ((font : List ℕ) → now (store .exit) ≡ commandStore g (faces font (now (store .entry))) s Command.Initialise) ⌝ }
 {
     if held {
         return carry_state::ends(s, Outcome::WindowHeld);
     }
     let before = s.spans;
     let spans = dots::erase(g, mem, before);
+    downloads::erase_all(store);
     let t = state::initial_state(g);
     carry_state::ends(State { spans, ..t }, Outcome::Carried)
 }

@@ -11,10 +11,10 @@ use paper::State;
 use paper::View;
 ghost use mathlib.Core.Path.{_≡_};
 ghost use mathlib.Core.Bool.{true};
-ghost use mathlib.Core.List.{List};
-ghost use Prim.Native.Nat.{ℕ, _≤_, _<_};
+ghost use Prim.Native.Nat.{_≤_, _<_};
+ghost use Rattle.paper.specs.Downloads.{Faces};
 ghost use Rattle.paper.specs.Cells.{tooLarge};
-ghost use Rattle.paper.specs.Bounds.{accepted};
+ghost use Rattle.paper.specs.Bounds.{stateOk};
 ghost use Rattle.paper.specs.Carry.{isHeld, commandOf};
 ghost use Rattle.laws_state.specs.Room.{Usable};
 ghost use Rattle.glyphs.specs.Cell.{cellOf};
@@ -54,8 +54,8 @@ pub fn is_too_large(v: View, cell: Cell) -> bool
 
 // BS.
 pub fn back(g: Module, s: State) -> Done
-    requires { ⌜ Usable g × (accepted g s ≡ true) ⌝ }
-    ensures { λ r. ⌜ ((font : List ℕ) → Says r (commandOf g font s Command.Back)) ⌝ }
+    requires { ⌜ Usable g × (stateOk g s ≡ true) ⌝ }
+    ensures { λ r. ⌜ ((font : Faces) → Says r (commandOf g font s Command.Back)) ⌝ }
 {
     let view = state_views::view_of(g, s);
     let cell = cell_now(g, s);
@@ -68,8 +68,8 @@ pub fn back(g: Module, s: State) -> Done
 
 // HOM.
 pub fn home(g: Module, s: State) -> Done
-    requires { ⌜ Usable g × (accepted g s ≡ true) ⌝ }
-    ensures { λ r. ⌜ ((font : List ℕ) → Says r (commandOf g font s Command.Home)) ⌝ }
+    requires { ⌜ Usable g × (stateOk g s ≡ true) ⌝ }
+    ensures { λ r. ⌜ ((font : Faces) → Says r (commandOf g font s Command.Home)) ⌝ }
 {
     let view = state_views::view_of(g, s);
     let to = moves::to(view, 0, 0);
@@ -78,8 +78,8 @@ pub fn home(g: Module, s: State) -> Done
 
 // CR.
 pub fn carriage_return(g: Module, s: State) -> Done
-    requires { ⌜ Usable g × (accepted g s ≡ true) ⌝ }
-    ensures { λ r. ⌜ ((font : List ℕ) → Says r (commandOf g font s Command.Return)) ⌝ }
+    requires { ⌜ Usable g × (stateOk g s ≡ true) ⌝ }
+    ensures { λ r. ⌜ ((font : Faces) → Says r (commandOf g font s Command.Return)) ⌝ }
 {
     let view = state_views::view_of(g, s);
     let to = moves::to(view, 0, view.y);
@@ -91,7 +91,7 @@ pub fn carriage_return(g: Module, s: State) -> Done
 // A window selected.
 pub fn select(g: Module, s: State, held: bool, k: u8) -> Done
     requires { ⌜ held ≡ isHeld (s .hold) ⌝ }
-    ensures { λ r. ⌜ ((font : List ℕ) → Says r (commandOf g font s (Command.Select k))) ⌝ }
+    ensures { λ r. ⌜ ((font : Faces) → Says r (commandOf g font s (Command.Select k))) ⌝ }
 {
     if held {
         return ends(s, Outcome::WindowHeld);
@@ -109,7 +109,7 @@ pub fn select(g: Module, s: State, held: bool, k: u8) -> Done
 // MD1, MD2, MD3.
 pub fn mode(g: Module, s: State, n: u8) -> Done
     requires { ⌜ s .selected ≤ 4 ⌝ }
-    ensures { λ r. ⌜ ((font : List ℕ) → Says r (commandOf g font s (Command.Mode n))) ⌝ }
+    ensures { λ r. ⌜ ((font : Faces) → Says r (commandOf g font s (Command.Mode n))) ⌝ }
 {
     ends(state_views::in_mode(s, n), Outcome::Carried)
 }
@@ -117,7 +117,7 @@ pub fn mode(g: Module, s: State, n: u8) -> Done
 // A setting that one byte gives.
 pub fn set(g: Module, s: State, held: bool, key: Key, n: u8) -> Done
     requires { ⌜ held ≡ isHeld (s .hold) ⌝ }
-    ensures { λ r. ⌜ ((font : List ℕ) → Says r (commandOf g font s (Command.Set key n))) ⌝ }
+    ensures { λ r. ⌜ ((font : Faces) → Says r (commandOf g font s (Command.Set key n))) ⌝ }
 {
     if state::not_carried_value(key, n) {
         return ends(s, Outcome::NotCarried);
@@ -136,7 +136,7 @@ pub fn set(g: Module, s: State, held: bool, key: Key, n: u8) -> Done
 // The enlargement.
 pub fn enlarge(g: Module, s: State, x: u8, y: u8) -> Done
     requires { ⌜ s .selected ≤ 4 ⌝ }
-    ensures { λ r. ⌜ ((font : List ℕ) → Says r (commandOf g font s (Command.Enlarge x y))) ⌝ }
+    ensures { λ r. ⌜ ((font : Faces) → Says r (commandOf g font s (Command.Enlarge x y))) ⌝ }
 {
     if accept_settings::in_enlargement(x, y) {
         let v = s.settings;
@@ -149,7 +149,7 @@ pub fn enlarge(g: Module, s: State, x: u8, y: u8) -> Done
 // The cursor set.
 pub fn set_cursor(g: Module, s: State, x: u16, y: u16) -> Done
     requires { ⌜ s .selected ≤ 4 ⌝ }
-    ensures { λ r. ⌜ ((font : List ℕ) → Says r (commandOf g font s (Command.CursorSet x y))) ⌝ }
+    ensures { λ r. ⌜ ((font : Faces) → Says r (commandOf g font s (Command.CursorSet x y))) ⌝ }
 {
     if state_views::inside_window(g, s, x, y) {
         let c = state_views::cursor_of(s);
@@ -173,7 +173,7 @@ pub fn define(
     height: u16,
 ) -> Done
     requires { ⌜ (held ≡ isHeld (s .hold)) × (1 ≤ a) × (a ≤ 4) ⌝ }
-    ensures { λ r. ⌜ ((font : List ℕ) → Says r (commandOf g font s (Command.Define a left top width height))) ⌝ }
+    ensures { λ r. ⌜ ((font : Faces) → Says r (commandOf g font s (Command.Define a left top width height))) ⌝ }
 {
     if held {
         return ends(s, Outcome::WindowHeld);
@@ -190,7 +190,7 @@ pub fn define(
 // A user window cancelled.
 pub fn cancel(g: Module, s: State, held: bool, a: u8) -> Done
     requires { ⌜ (held ≡ isHeld (s .hold)) × (1 ≤ a) × (a ≤ 4) ⌝ }
-    ensures { λ r. ⌜ ((font : List ℕ) → Says r (commandOf g font s (Command.Cancel a))) ⌝ }
+    ensures { λ r. ⌜ ((font : Faces) → Says r (commandOf g font s (Command.Cancel a))) ⌝ }
 {
     if held {
         return ends(s, Outcome::WindowHeld);

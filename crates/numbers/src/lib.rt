@@ -38,6 +38,8 @@ pub fn outcome_number(o: Outcome) -> u32
         Outcome::WindowHeld => 15,
         Outcome::TooLarge => 16,
         Outcome::NotDefined => 17,
+        Outcome::Dropped => 18,
+        Outcome::NotStored => 19,
     }
 }
 

@@ -1,9 +1,15 @@
 // What a byte gives to a half-read command: document 01, "How bytes are read".
-// There is no state and no memory here: a command that is whole, an image byte with its place, or what is awaited next.
+// There is no state and no memory here: a command that is whole, an image byte with its place, a download that has come whole, or
+// what is awaited next.
 // It uses the paper, the numbers and reading_codes for a byte of the code. `read` is its one call; each function above it decides one
 // place after the code.
 ghost use mathlib.Core.Path.{_≡_};
-ghost use Rattle.paper.specs.Reading.{between, readRest, readGlyphByte, readWindowB, readWord, readImage, readOf};
+ghost use mathlib.Core.Bool.{true};
+ghost use Prim.Native.Nat.{_<_};
+ghost use Rattle.paper.specs.Bounds.{halfOk};
+ghost use Rattle.paper.specs.Reading.{between, readRest, noColumns, withColumn, readColumn, readWindowB, readWord, readImage, readOf};
+use paper::Batch;
+use paper::Columns;
 use paper::Command;
 use paper::Half;
 use paper::Module;
@@ -27,24 +33,50 @@ fn read_rest(left: u8) -> Reading
     reading_codes::more_rest(left - 1)
 }
 
-// A byte of a downloaded glyph: the next one, the next code's width, or the download's end.
-fn read_glyph_byte(code: u8, last: u8, left: u8) -> Reading
-    ensures { λ r. ⌜ r ≡ readGlyphByte code last left ⌝ }
+// So many columns of a download are awaited, and none has come.
+fn no_columns(width: u8) -> Columns
+    ensures { λ r. ⌜ r ≡ noColumns width ⌝ }
 {
-    if 1 < left {
-        return Reading::More(Half::GlyphByte {
-            code,
-            last,
-            left: left - 1,
-        });
+    Columns {
+        width,
+        come: 0,
+        c0: 0,
+        c1: 0,
+        c2: 0,
+        c3: 0,
+        c4: 0,
+        c5: 0,
+        c6: 0,
     }
-    if last <= code {
-        return Reading::Whole(Command::Uncarried);
+}
+
+// A download's columns with one more, in its place.
+fn with_column(c: Columns, b: u8) -> Columns
+    requires { ⌜ c .come < 7 ⌝ }
+    ensures { λ r. ⌜ r ≡ withColumn c b ⌝ }
+{
+    let mut t = c;
+    t.come = c.come + 1;
+    match c.come {
+        0 => t.c0 = b,
+        1 => t.c1 = b,
+        2 => t.c2 = b,
+        3 => t.c3 = b,
+        4 => t.c4 = b,
+        5 => t.c5 = b,
+        _ => t.c6 = b,
     }
-    Reading::More(Half::GlyphWidth {
-        code: code + 1,
-        last,
-    })
+    t
+}
+
+// A download's column has come: the next one is awaited, or it was the last.
+fn read_column(batch: Batch, columns: Columns) -> Reading
+    ensures { λ r. ⌜ r ≡ readColumn batch columns ⌝ }
+{
+    if columns.come < columns.width {
+        return Reading::More(Half::GlyphByte { batch, columns });
+    }
+    Reading::GlyphEnd { batch, columns }
 }
 
 // Whether window a is cancelled or defined.
@@ -138,6 +170,7 @@ fn read_image(width: u16, height: u16, column: u16, row: u16, b: u8) -> Reading
 
 // What a byte gives to what is half read.
 pub fn read(g: Module, half: Half, b: u8) -> Reading
+    requires { ⌜ halfOk g half ≡ true ⌝ }
     ensures { λ r. ⌜ r ≡ readOf g half b ⌝ }
 {
     match half {
@@ -155,20 +188,21 @@ pub fn read(g: Module, half: Half, b: u8) -> Reading
         Half::DownloadFrom => reading_codes::more_if(0x20 <= b, Half::DownloadTo { from: b }),
         Half::DownloadTo { from } => reading_codes::more_if(
             from <= b,
-            Half::GlyphWidth {
+            Half::GlyphWidth(Batch {
+                first: from,
                 code: from,
                 last: b,
-            },
+                dropped: false,
+            }),
         ),
-        Half::GlyphWidth { code, last } => reading_codes::more_if(
+        Half::GlyphWidth(batch) => reading_codes::more_if(
             (b == 5) | (b == 7),
             Half::GlyphByte {
-                code,
-                last,
-                left: b,
+                batch,
+                columns: no_columns(b),
             },
         ),
-        Half::GlyphByte { code, last, left } => read_glyph_byte(code, last, left),
+        Half::GlyphByte { batch, columns } => read_column(batch, with_column(columns, b)),
         Half::Low(word) => Reading::More(Half::High { word, low: b }),
         Half::High { word, low } => read_word(g, word, numbers::word16(low, b)),
         Half::ImageKind { width, height } => reading_codes::more_if(
@@ -194,5 +228,7 @@ pub fn read(g: Module, half: Half, b: u8) -> Reading
             Half::WindowB { a: b },
         ),
         Half::WindowB { a } => read_window_b(a, b),
+        Half::EraseA => Reading::More(Half::EraseCode { a: b }),
+        Half::EraseCode { a } => Reading::Whole(Command::Erase { a, code: b }),
     }
 }

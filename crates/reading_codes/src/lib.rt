@@ -87,8 +87,8 @@ pub fn read_escape(g: Module, b: u8) -> Reading
         0x40 => Reading::Whole(Command::Initialise),
         0x52 => more_value(Key::Charset),
         0x74 => more_value(Key::Codes),
-        0x25 => only_if(g.downloads, more_rest(1)),
-        0x3F => only_if(g.downloads, more_rest(2)),
+        0x25 => only_if(g.downloads, more_value(Key::Switch)),
+        0x3F => only_if(g.downloads, Reading::More(Half::EraseA)),
         0x26 => only_if(g.downloads, Reading::More(Half::DownloadA)),
         _ => Reading::UnknownCode,
     }

@@ -9,7 +9,7 @@ use types.Run.{OneOf}
 use denote.Enum.Declared.{tagOf}
 use Rattle.paper.proofs.Key.{the-type}
 use Rattle.paper.specs.declared.Key.{Key}
-use Rattle.paper.specs.declared.Key.the-variants.{Charset, Codes, Caret, Brightness, Reverse, Speed, Mixing, Width, Write}
+use Rattle.paper.specs.declared.Key.the-variants.{Charset, Codes, Caret, Brightness, Reverse, Speed, Mixing, Width, Write, Switch}
 
 -- the key with a tag
 abbrev keyAt : ℕ → Key
@@ -21,7 +21,8 @@ keyAt n =
     (cond (eqb n 4) Reverse
     (cond (eqb n 5) Speed
     (cond (eqb n 6) Mixing
-    (cond (eqb n 7) Width Write)))))))
+    (cond (eqb n 7) Width
+    (cond (eqb n 8) Write Switch))))))))
 
 by-tag : (k : Key) → keyAt (tagOf the-type k) ≡ k
 by-tag Charset = refl
@@ -33,6 +34,7 @@ by-tag Speed = refl
 by-tag Mixing = refl
 by-tag Width = refl
 by-tag Write = refl
+by-tag Switch = refl
 
 -- a test fails at the key with each of some tags
 abbrev pub Fails : (Key → Bool) → List ℕ → Type 0

@@ -40,6 +40,7 @@ fn initial_settings(g: Module) -> Settings
         speed: 0,
         width: 1,
         write: 0,
+        switch: 0,
         style,
     }
 }
@@ -136,6 +137,7 @@ pub fn with_setting(v: Settings, key: Key, n: u8) -> Settings
         Key::Mixing => t.style.mixing = n,
         Key::Width => t.width = n,
         Key::Write => t.write = n,
+        Key::Switch => t.switch = n,
     }
     t
 }

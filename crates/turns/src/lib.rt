@@ -9,8 +9,12 @@ use paper::Reading;
 use paper::State;
 use turns_light::Turn;
 ghost use mathlib.Core.Path.{_≡_};
-ghost use Prim.Native.Nat.{_<_, _≤_};
+ghost use mathlib.Core.Bool.{true};
+ghost use mathlib.Core.List.{List};
+ghost use Prim.Native.Nat.{ℕ, _<_, _≤_};
 ghost use lib.ListN.{length, drop};
+ghost use Rattle.paper.specs.Downloads.{storeLength};
+ghost use Rattle.paper.specs.Bounds.{halfOk};
 ghost use Rattle.turns_light.specs.Turns.{Gathers, Due, Turned};
 
 // An image's byte and those that follow it.
@@ -27,7 +31,7 @@ fn feed_image(
     i: usize,
 ) -> Turn
     requires { ⌜ Due g (now mem) (now font) (now piece) f i × (f .state .half ≡ Half.ImageData width height column row) ⌝ }
-    ensures { λ r. ⌜ Turned g (now (font .entry)) f (now (mem .entry)) (now (piece .entry)) i r (now (mem .exit)) ⌝ }
+    ensures { λ r. ⌜ ((ds : List ℕ) → Turned g (now (font .entry)) f (now (mem .entry)) ds (now (piece .entry)) i r (now (mem .exit)) ds) ⌝ }
 {
     let s = f.state;
     let p = carry_dots::spot_of(g, s);
@@ -78,7 +82,7 @@ struct Gathered {
 // The bytes of a command from `from` on, up to the one that completes it or the piece's end. It knows no state: one is touched once
 // for each command and not for each of its bytes.
 fn gather(g: Module, half: Half, piece: &[u8], from: usize) -> Gathered
-    requires { ⌜ from < length (now piece) ⌝ }
+    requires { ⌜ (from < length (now piece)) × (halfOk g half ≡ true) ⌝ }
     ensures { λ r. ⌜ (from < r .at) × (r .at ≤ length (now (piece .entry)))
         × Gathers g (Reading.More half) (drop from (now (piece .entry))) (r .reading) (drop (r .at) (now (piece .entry))) ⌝ }
 {
@@ -103,16 +107,25 @@ fn gather(g: Module, half: Half, piece: &[u8], from: usize) -> Gathered
 }
 
 // The bytes of a command: carried out, and counted.
-fn feed_command(g: Module, mem: &mut [u8], font: &[u8], piece: &[u8], f: Fed, i: usize) -> Turn
-    requires { ⌜ Due g (now mem) (now font) (now piece) f i ⌝ }
-    ensures { λ r. ⌜ Turned g (now (font .entry)) f (now (mem .entry)) (now (piece .entry)) i r (now (mem .exit)) ⌝ }
+fn feed_command(
+    g: Module,
+    mem: &mut [u8],
+    store: &mut [u8],
+    font: &[u8],
+    piece: &[u8],
+    f: Fed,
+    i: usize,
+) -> Turn
+    requires { ⌜ Due g (now mem) (now font) (now piece) f i × (length (now store) ≡ storeLength) ⌝ }
+    ensures { λ r. ⌜ Turned g (now (font .entry)) f (now (mem .entry)) (now (store .entry)) (now (piece .entry)) i
+        r (now (mem .exit)) (now (store .exit)) ⌝ }
 {
     let before = f.state;
     let half = before.half;
     let r = gather(g, half, piece, i);
     let reading = r.reading;
     let at = r.at;
-    let d = carry::take(g, mem, font, before, reading);
+    let d = carry::take(g, mem, store, font, before, reading);
     let state = d.state;
     let outcome = d.outcome;
     let refusal = f.refusal;
@@ -127,13 +140,22 @@ fn feed_command(g: Module, mem: &mut [u8], font: &[u8], piece: &[u8], f: Fed, i:
 }
 
 // The byte at i, and those after it that are taken with it.
-pub fn feed_some(g: Module, mem: &mut [u8], font: &[u8], piece: &[u8], f: Fed, i: usize) -> Turn
-    requires { ⌜ Due g (now mem) (now font) (now piece) f i ⌝ }
-    ensures { λ r. ⌜ Turned g (now (font .entry)) f (now (mem .entry)) (now (piece .entry)) i r (now (mem .exit)) ⌝ }
+pub fn feed_some(
+    g: Module,
+    mem: &mut [u8],
+    store: &mut [u8],
+    font: &[u8],
+    piece: &[u8],
+    f: Fed,
+    i: usize,
+) -> Turn
+    requires { ⌜ Due g (now mem) (now font) (now piece) f i × (length (now store) ≡ storeLength) ⌝ }
+    ensures { λ r. ⌜ Turned g (now (font .entry)) f (now (mem .entry)) (now (store .entry)) (now (piece .entry)) i
+        r (now (mem .exit)) (now (store .exit)) ⌝ }
 {
     let s = f.state;
     if turns_light::is_light(g, s, piece, i) {
-        return turns_light::feed_light(g, mem, font, piece, f, i);
+        return turns_light::feed_light(g, mem, font, store, piece, f, i);
     }
     let half = s.half;
     match half {
@@ -143,6 +165,6 @@ pub fn feed_some(g: Module, mem: &mut [u8], font: &[u8], piece: &[u8], f: Fed, i
             column,
             row,
         } => { feed_image(g, mem, font, piece, f, width, height, column, row, i) }
-        _ => feed_command(g, mem, font, piece, f, i),
+        _ => feed_command(g, mem, store, font, piece, f, i),
     }
 }

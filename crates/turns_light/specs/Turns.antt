@@ -60,8 +60,8 @@ pub record Due (g : Module) (m font piece : List ℕ) (f : Fed) (i : ℕ) : Type
   pub inside : i < length piece
   pub countable : f .carried + f .answered + (length piece - i) < 18446744073709551616
 
--- some bytes more are fed, as they are one by one
-pub record Turned (g : Module) (font : List ℕ) (f : Fed) (m piece : List ℕ) (i : ℕ) (r : Turn) (m′ : List ℕ) : Type 0 where
+-- some bytes more are fed, as they are one by one; before and after are a memory and the downloads
+pub record Turned (g : Module) (font : List ℕ) (f : Fed) (m ds piece : List ℕ) (i : ℕ) (r : Turn) (m′ ds′ : List ℕ) : Type 0 where
   pub some : i < r .at
   pub end : r .at ≤ length piece
-  pub reached : Reaches g font (fed f m) (drop i piece) (fed (r .fed) m′) (drop (r .at) piece)
+  pub reached : Reaches g font (fed f m ds) (drop i piece) (fed (r .fed) m′ ds′) (drop (r .at) piece)

@@ -1,5 +1,5 @@
 // A light turn of the loop over a piece: characters, moves, and reverse and mixing, as many as follow each other.
-// It may use runs and strides for what they do, carry_state and carry_dots for the state's spot. It reads and carries out no command.
+// It may use runs and strides for what they do, downloads for those in force, carry_state and carry_dots for the state's spot. It reads and carries out no command.
 // Its contract, and that of every turn (specs/Turns), says that feeding the bytes one by one comes to the same.
 use moves::Spot;
 use paper::Fed;
@@ -13,6 +13,7 @@ ghost use mathlib.Core.Path.{_≡_};
 ghost use mathlib.Core.Bool.{true};
 ghost use Prim.Native.Nat.{_+_, _<_, _≤_};
 ghost use lib.ListN.{length};
+ghost use Rattle.paper.specs.Downloads.{storeLength};
 ghost use Rattle.turns_light.specs.Turns.{Light, Due, Turned, onDesk, turnedTo};
 
 // A turn of the loop over a piece: what has been fed, and the place of the next byte.
@@ -69,13 +70,23 @@ fn settled(f: Fed, p: Spot, style: Style, carried: usize, outcome: Outcome, at: 
 }
 
 // Characters, moves, and reverse and mixing, as many as follow each other: the state is touched once for all of them.
-pub fn feed_light(g: Module, mem: &mut [u8], font: &[u8], piece: &[u8], f: Fed, from: usize) -> Turn
-    requires { ⌜ Due g (now mem) (now font) (now piece) f from × Light g (f .state) (now piece) from ⌝ }
-    ensures { λ r. ⌜ Turned g (now (font .entry)) f (now (mem .entry)) (now (piece .entry)) from r (now (mem .exit)) ⌝ }
+pub fn feed_light(
+    g: Module,
+    mem: &mut [u8],
+    font: &[u8],
+    store: &[u8],
+    piece: &[u8],
+    f: Fed,
+    from: usize,
+) -> Turn
+    requires { ⌜ Due g (now mem) (now font) (now piece) f from × ((length (now store) ≡ storeLength) × Light g (f .state) (now piece) from) ⌝ }
+    ensures { λ r. ⌜ Turned g (now (font .entry)) f (now (mem .entry)) (now (store .entry)) (now (piece .entry)) from
+        r (now (mem .exit)) (now (store .entry)) ⌝ }
 {
     let s = f.state;
     let v = s.settings;
     let w = v.width;
+    let own = downloads::in_force(store, v.switch);
     let p0 = carry_dots::spot_of(g, s);
     let range = p0.view;
     let mut p = p0;
@@ -90,7 +101,7 @@ pub fn feed_light(g: Module, mem: &mut [u8], font: &[u8], piece: &[u8], f: Fed, 
         let b = piece[i];
         outcome = Outcome::Carried;
         if 0x20 <= b {
-            let r = runs::run(g, mem, font, p, w, style, piece, i);
+            let r = runs::run(g, mem, font, own, p, w, style, piece, i);
             let at = r.at;
             let q = r.spot;
             carried += at - i;

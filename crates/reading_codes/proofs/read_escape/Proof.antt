@@ -15,12 +15,11 @@ read-escape-spec =
     (λ c κs. tt)
     (λ c κs. tt)
     (λ c κs. tt)
-    (λ c κs. tt)
     (λ c. rw (c .match .keys1))
     (λ c. rw (c .before .match .keys2) (c .more-value .ensures))
     (λ c. rw (c .before .match .keys3) (c .more-value2 .ensures))
-    (λ c. rw (c .before .before .match .keys4, ← c .before .more-rest .ensures) (c .only-if .ensures))
-    (λ c. rw (c .before .before .match .keys5, ← c .before .more-rest2 .ensures) (c .only-if2 .ensures))
+    (λ c. rw (c .before .before .match .keys4, ← c .before .more-value3 .ensures) (c .only-if .ensures))
+    (λ c. rw (c .before .match .keys5) (c .only-if2 .ensures))
     (λ c. rw (c .before .match .keys6) (c .only-if3 .ensures))
     (λ c. let e = c .match .rest in rw (
       differs (e .0 .0 .0 .0 .0 .1),

@@ -9,7 +9,7 @@ use Rattle.state.proofs.is_write.Tie as tie
 returns-2 : tie.Need-returns-2
 unfolding isWrite
 returns-2 c =
-    elsewhere isWrite (0 ∷ 1 ∷ 2 ∷ 3 ∷ 4 ∷ 5 ∷ 6 ∷ 7 ∷ []) (c .before .args .key) (search needs)
+    elsewhere isWrite (0 ∷ 1 ∷ 2 ∷ 3 ∷ 4 ∷ 5 ∷ 6 ∷ 7 ∷ 9 ∷ []) (c .before .args .key) (search needs)
     (c .match .keys2)
 
 pub is-write-spec : {M : Type 1} → statement M

@@ -9,7 +9,7 @@ use Rattle.state.proofs.not_carried_value.Tie as tie
 returns-2 : tie.Need-returns-2
 unfolding notCarriedValue
 returns-2 c =
-    elsewhere (λ k. notCarriedValue k (c .before .args .n)) (0 ∷ 1 ∷ 2 ∷ 3 ∷ 4 ∷ 5 ∷ 6 ∷ 8 ∷ [])
+    elsewhere (λ k. notCarriedValue k (c .before .args .n)) (0 ∷ 1 ∷ 2 ∷ 3 ∷ 4 ∷ 5 ∷ 6 ∷ 8 ∷ 9 ∷ [])
     (c .before .args .key) (search needs) (c .match .keys2)
 
 pub not-carried-value-spec : {M : Type 1} → statement M
