@@ -37,16 +37,16 @@ abbrev liftBy : Bool → Bool → Lift
 liftBy f t = cond f (record { down = 1; up = cond t 1 0 }) (record { down = 0; up = 0 })
 
 -- a glyph's dots go one down at most, and no further up
-pub placing-small : (g : Module) (row : ℕ) → (placingOf g row .down ≤ 1) × (placingOf g row .up ≤ placingOf g row .down)
-placing-small g row = go (g .framed) (eqb row 0) where
+pub placing-small : (f : Bool) (row : ℕ) → (placingOf f row .down ≤ 1) × (placingOf f row .up ≤ placingOf f row .down)
+placing-small f row = go f (eqb row 0) where
   go : (f t : Bool) → (liftBy f t .down ≤ 1) × (liftBy f t .up ≤ liftBy f t .down)
   go true true = (omega arith, omega arith)
   go true false = (omega arith, omega arith)
   go false t = (omega arith, omega arith)
 
 -- and a column so placed is the one on that row
-pub placed-byte : (g : Module) (row v : ℕ) → v / 2 ^ (placingOf g row .down) * 2 ^ (placingOf g row .up) ≡ placedByte g row v
-placed-byte g row v = go (g .framed) (eqb row 0) where
+pub placed-byte : (f : Bool) (row v : ℕ) → v / 2 ^ (placingOf f row .down) * 2 ^ (placingOf f row .up) ≡ placedByte f row v
+placed-byte f row v = go f (eqb row 0) where
   go : (f t : Bool) → v / 2 ^ (liftBy f t .down) * 2 ^ (liftBy f t .up) ≡ cond f (cond t (v / 2 * 2) (v / 2)) v
   go true true = refl
   go true false = omega arith

@@ -1,6 +1,6 @@
 // Glyphs: what a cell looks like: how wide it is, its columns in bytes, and what reverse and mixing make of a byte.
-// It may use the paper and the laws of bytes. It reads the font and writes nothing.
-// It works in bytes: a glyph's column is fetched, placed, stretched and reversed once.
+// It may use the paper, the laws of bytes, and the downloads to find one by its code. It reads font and downloads and writes nothing.
+// It works in bytes: a glyph is the slice of its columns; each is fetched, placed, stretched and reversed once.
 use paper::Module;
 use paper::Style;
 ghost use mathlib.Core.Path.{_≡_};
@@ -8,7 +8,7 @@ ghost use mathlib.Core.Bool.{cond};
 ghost use Prim.Native.Nat.{_+_, _*_, _/_, _^_, _≤_, _<_};
 ghost use lib.Dec.{eqb};
 ghost use lib.ListN.{length};
-ghost use Rattle.paper.specs.Panel.{fontLength};
+ghost use Rattle.paper.specs.Panel.{fontLength, isFramed};
 ghost use Rattle.paper.specs.Cells.{blanksLeft, blankColumns, cellWidth};
 ghost use Rattle.laws_bytes.specs.Bytes.{double, glyphColumn, reversedByte, mixedByte};
 ghost use Rattle.glyphs.specs.Cell.{cellOf};
@@ -34,14 +34,14 @@ fn frame_columns(w: u8) -> usize
     if w == 0 { 1 } else { 2 }
 }
 
-// How many blank columns a code's cell has.
+// How many blank columns a cell has on a module.
 fn blank_columns(g: Module, w: u8) -> usize
     ensures { λ n. ⌜ n ≡ blankColumns g w ⌝ }
 {
     if g.framed { frame_columns(w) } else { 0 }
 }
 
-// How many columns a code's cell has.
+// How many columns a cell has.
 pub fn cell_width(g: Module, w: u8, style: Style) -> usize
     requires { ⌜ g .glyph ≤ 8 ⌝ }
     ensures { λ c. ⌜ c ≡ cellWidth g w style ⌝ }
@@ -71,34 +71,40 @@ pub fn cell_of(g: Module, w: u8, style: Style) -> Cell
     }
 }
 
-// How many blank columns stand on the left of a code's glyph.
-pub fn blanks_left(g: Module, w: u8) -> usize
-    ensures { λ n. ⌜ (n ≡ blanksLeft g w) × (n ≤ w) ⌝ }
+// Whether a glyph of these columns is framed by blanks.
+pub fn framed_by(g: Module, cols: &[u8]) -> bool
+    ensures { λ b. ⌜ b ≡ isFramed g (now (cols .entry)) ⌝ }
 {
-    if g.framed { w as usize } else { 0 }
+    g.framed & (cols.len() == g.glyph)
+}
+
+// How many blank columns stand on the left of a glyph.
+pub fn blanks_left(framed: bool, w: u8) -> usize
+    ensures { λ n. ⌜ (n ≡ blanksLeft framed w) × (n ≤ w) ⌝ }
+{
+    if framed { w as usize } else { 0 }
 }
 
 // And on the right.
-pub fn blank_right(g: Module) -> usize
-    ensures { λ n. ⌜ (n ≡ blankRight g) × (n ≤ 1) ⌝ }
+pub fn blank_right(framed: bool) -> usize
+    ensures { λ n. ⌜ (n ≡ blankRight framed) × (n ≤ 1) ⌝ }
 {
-    if g.framed { 1 } else { 0 }
+    if framed { 1 } else { 0 }
 }
 
-// Column k of a code's cell: the glyph's after the blank ones on its left, then blank.
-fn glyph_column(g: Module, font: &[u8], code: u8, w: u8, k: usize) -> u8
-    requires { ⌜ (length (now font) ≡ fontLength g) × (0x20 ≤ code) ⌝ }
-    ensures { λ b. ⌜ b ≡ glyphColumn g (now (font .entry)) code w k ⌝ }
+// Column k of a glyph's cell: the glyph's after the blank ones on its left, then blank.
+fn glyph_column(framed: bool, cols: &[u8], w: u8, k: usize) -> u8
+    ensures { λ b. ⌜ b ≡ glyphColumn framed (now (cols .entry)) w k ⌝ }
 {
-    let blanks = blanks_left(g, w);
+    let blanks = blanks_left(framed, w);
     if k < blanks {
         return 0;
     }
-    if blanks + g.glyph <= k {
+    let j = k - blanks;
+    if cols.len() <= j {
         return 0;
     }
-    let c = code as usize;
-    font[g.glyph * (c - 0x20) + (k - blanks)]
+    cols[j]
 }
 
 // How the dots of a glyph's column are placed on a row of memory: so many down, and up again. What they leave is blank.
@@ -108,7 +114,7 @@ pub struct Lift {
 }
 
 // A framed glyph's: on row 0 the blank dot is below, on any other above.
-fn framed(row: usize) -> Lift
+fn framed_on(row: usize) -> Lift
     ensures { λ p. ⌜ p ≡ framedOn row ⌝ }
 {
     if row == 0 {
@@ -118,11 +124,11 @@ fn framed(row: usize) -> Lift
 }
 
 // Any glyph's: one that is not framed stays as it is.
-pub fn placing(g: Module, row: usize) -> Lift
-    ensures { λ p. ⌜ (p ≡ placingOf g row) × (p .down ≤ 1) × (p .up ≤ p .down) ⌝ }
+pub fn placing(framed: bool, row: usize) -> Lift
+    ensures { λ p. ⌜ (p ≡ placingOf framed row) × (p .down ≤ 1) × (p .up ≤ p .down) ⌝ }
 {
-    if g.framed {
-        return framed(row);
+    if framed {
+        return framed_on(row);
     }
     Lift { down: 0, up: 0 }
 }
@@ -180,12 +186,11 @@ pub fn mixed(style: Style, v: u8, old: u8) -> u8
     old ^ v
 }
 
-// Column k of a code's cell, the cursor on a row of memory: fetched, placed, stretched and reversed.
-pub fn column(g: Module, font: &[u8], code: u8, w: u8, style: Style, row: usize, k: usize) -> Tall
-    requires { ⌜ (length (now font) ≡ fontLength g) × (0x20 ≤ code) ⌝ }
-    ensures { λ t. ⌜ t ≡ inkColumn g (now (font .entry)) code w style row k ⌝ }
+// Column k of a glyph's cell, the cursor on a row of memory: fetched, placed, stretched and reversed.
+pub fn column(framed: bool, cols: &[u8], w: u8, style: Style, row: usize, k: usize) -> Tall
+    ensures { λ t. ⌜ t ≡ inkColumn framed (now (cols .entry)) w style row k ⌝ }
 {
-    let v = placed(placing(g, row), glyph_column(g, font, code, w, k));
+    let v = placed(placing(framed, row), glyph_column(framed, cols, w, k));
     let t = stretched(v, style.down);
     Tall {
         upper: reversed(style, t.upper),
@@ -194,16 +199,15 @@ pub fn column(g: Module, font: &[u8], code: u8, w: u8, style: Style, row: usize,
 }
 
 // One column on: the column at hand once more, or the next after it was drawn as often as it is repeated.
-pub fn next(g: Module, font: &[u8], code: u8, w: u8, style: Style, row: usize, walk: Walk) -> Walk
-    requires { ⌜ (length (now font) ≡ fontLength g) × (0x20 ≤ code) ⌝ }
+pub fn next(framed: bool, cols: &[u8], w: u8, style: Style, row: usize, walk: Walk) -> Walk
     requires { ⌜ (walk .times ≤ style .across) × (walk .index + 1 < 2 ^ 64) ⌝ }
-    ensures { λ r. ⌜ r ≡ nextOf g (now (font .entry)) code w style row walk ⌝ }
+    ensures { λ r. ⌜ r ≡ nextOf framed (now (cols .entry)) w style row walk ⌝ }
 {
     let times = walk.times;
     if times == style.across {
         let k = walk.index + 1;
         return Walk {
-            column: column(g, font, code, w, style, row, k),
+            column: column(framed, cols, w, style, row, k),
             index: k,
             times: 1,
         };

@@ -1,37 +1,43 @@
 -- The half-read commands that the paper accepts are those that some bytes lead to. Assumes nothing.
 use mathlib.Core.Path.{_≡_, refl, sym, ap, _∙_, subst}
-use mathlib.Core.Bool.{true}
+use mathlib.Core.Bool.{Bool, true, false}
 use mathlib.Core.List.{List, [], _∷_, _++_}
 use mathlib.Core.Logic.{⊎-elim}
 use Prim.Native.Nat.{ℕ, zero, suc, _+_, _-_, _/_, _%_, _<_, _≤_}
 use native.Mathlib.Nat.{eq-or-lt-of-le}
 use native.Mathlib.Numerals.{add-one}
 use native.Mathlib.Omega.{arith}
-use lib.Dec.{leb}
-use borrow.Author.Tests.{lt-leb, lt-ltb, le-ltb}
+use lib.Dec.{leb, ltb}
+use borrow.Author.Tests.{leb-true, le-leb, lt-leb, lt-ltb, le-ltb}
 use Rattle.paper.specs.declared.Module.{Module}
 use Rattle.paper.specs.declared.Key.{Key}
-use Rattle.paper.specs.declared.Key.the-variants.{Charset, Codes, Caret, Brightness, Reverse, Speed, Mixing, Width, Write}
+use Rattle.paper.specs.declared.Key.the-variants.{Charset, Codes, Caret, Brightness, Reverse, Speed, Mixing, Width, Write, Switch}
 use Rattle.paper.specs.declared.Word.{Word}
 use Rattle.paper.specs.declared.Word.the-variants.{CursorX, CursorY, WindowLeft, WindowTop, WindowWidth, WindowHeight, ImageWidth, ImageHeight}
+use Rattle.paper.specs.declared.Batch.{Batch}
+use Rattle.paper.specs.declared.Columns.{Columns}
 use Rattle.paper.specs.declared.Half.{Half}
-use Rattle.paper.specs.declared.Half.the-variants.{Nothing, Escape, Unit, Group, Actions, Images, Characters, Windows, Value, Rest, DownloadA, DownloadFrom, DownloadTo, GlyphWidth, GlyphByte, Low, High, ImageKind, ImageData, EnlargeX, EnlargeY, SelectA, WindowA, WindowB}
-use Rattle.paper.specs.declared.Reading.the-variants.{More, ImageByte}
-use Rattle.paper.specs.Reading.{between, readFirst, readEscape, readUnit, readGroup, readActions, readImages, readCharacters, isKnown, readWindows, readRest, readGlyphByte, readWindowB, word16, readWord, readImage, readOf}
-use Rattle.paper.specs.Bounds.{wordOk, halfOk}
+use Rattle.paper.specs.declared.Half.the-variants.{Nothing, Escape, Unit, Group, Actions, Images, Characters, Windows, Value, Rest, DownloadA, DownloadFrom, DownloadTo, GlyphWidth, GlyphByte, Low, High, ImageKind, ImageData, EnlargeX, EnlargeY, SelectA, WindowA, WindowB, EraseA, EraseCode}
+use Rattle.paper.specs.declared.Reading.the-variants.{More, ImageByte, GlyphEnd}
+use Rattle.paper.specs.Reading.{between, readFirst, readEscape, readUnit, readGroup, readActions, readImages, readCharacters, isKnown, readWindows, readRest, batch, nextCode, withColumn, readColumn, readWindowB, word16, readWord, readImage, readOf}
+use Rattle.paper.specs.Bounds.{wordOk, batchOk, restBlank, columnsOk, halfOk}
 use Rattle.laws_bytes.specs.Readings.{readingOk}
-use Rattle.laws_bytes.specs.Beginnings.{Begins, no-byte, one-more, one-stored, Beginning, WordFits, Fits}
+use Rattle.laws_bytes.specs.Beginnings.{Begins, no-byte, one-more, one-stored, one-glyph, any-note, Beginning, WordFits, BatchFits, ColumnsFit, Fits}
 use Rattle.laws_bytes.proofs.Tests.{both-of, between-facts, between-true}
-use Rattle.laws_bytes.proofs.Readings.{image-facts, reads-ok, image-byte-facts}
+use Rattle.laws_bytes.proofs.Columns.{columns-facts, columnOf, firstOf, first-more, first-all}
+use Rattle.laws_bytes.proofs.Readings.{image-facts, next-ok, reads-ok, image-byte-facts, glyph-end-facts}
 
 module _ (g : Module) where
   -- what bytes lead to is accepted
   pub begins-ok : {bs : List ℕ} {p : Half} → Begins g bs p → halfOk g p ≡ true
-  unfolding halfOk readingOk
+  unfolding halfOk batchOk readingOk
   begins-ok no-byte = refl
   begins-ok (one-more {p = p} b s l e) = rw e at (reads-ok g p b (begins-ok s))
   begins-ok (one-stored {p = p} {q = q} b column row s l e) =
       image-byte-facts g column row b q (rw e at (reads-ok g p b (begins-ok s))) .2
+  begins-ok (one-glyph {p = p} b d c s l e m) =
+      next-ok g d (d .dropped) (glyph-end-facts g d c (rw e at (reads-ok g p b (begins-ok s))) .0) m
+  begins-ok (any-note d dropped s) = begins-ok s
 
   -- ---- bytes, one after the other
 
@@ -46,6 +52,16 @@ module _ (g : Module) where
   -- one byte of an image more
   stored : {p q : Half} (column row : ℕ) → readOf g p 0 ≡ ImageByte column row 0 q → Beginning g p → Beginning g q
   stored column row e s = record { bytes = s .bytes ++ (0 ∷ []); begins = one-stored 0 column row (s .begins) (omega arith) e }
+
+  -- a download's last column more, another code following
+  glyph : {p : Half} (d : Batch) (c : Columns) → readOf g p 0 ≡ GlyphEnd d c → ltb (d .code) (d .last) ≡ true → Beginning g p
+      → Beginning g (GlyphWidth (nextCode d (d .dropped)))
+  glyph d c e m s = record { bytes = s .bytes ++ (0 ∷ []); begins = one-glyph 0 d c (s .begins) (omega arith) e m }
+
+  -- whether a code was dropped is no matter
+  again : (d : Batch) (dropped : Bool) → Beginning g (GlyphWidth d)
+      → Beginning g (GlyphWidth (batch (d .first) (d .code) (d .last) dropped))
+  again d dropped s = record { bytes = s .bytes; begins = any-note d dropped (s .begins) }
 
   -- ---- the openers
 
@@ -96,25 +112,24 @@ module _ (g : Module) where
   value Mixing h = more 0x77 (omega arith) refl unit
   value Width h = more 0x03 (omega arith) (rw h) characters
   value Write h = more 0x10 (omega arith) refl windows
-
-  -- ---- what is counted down
-
-  -- bytes of which fewer and fewer are left
-  fewer : (P : ℕ → Half) → ((n : ℕ) → readOf g (P (suc (suc n))) 0 ≡ More (P (suc n)))
-      → (k n : ℕ) → 1 ≤ n → n ≤ k → Beginning g (P k) → Beginning g (P n)
-  fewer P step zero n l h s = absurd (omega arith)
-  fewer P step (suc zero) n l h s = subst (λ (i : ℕ). Beginning g (P i)) (omega arith) s
-  fewer P step (suc (suc k)) n l h s =
-      ⊎-elim (λ e. subst (λ (i : ℕ). Beginning g (P i)) (sym e) s)
-      (λ m. fewer P step (suc k) n l (omega arith) (more 0 (omega arith) (step k) s)) (eq-or-lt-of-le h)
+  value Switch h = more 0x25 (omega arith) (rw h) escape
 
   -- the rest of a command that is not carried
   rest : (left : ℕ) → between 1 5 left ≡ true → Beginning g (Rest left)
   unfolding readOf readActions readRest
-  rest left h =
-      let f = between-facts 1 5 left h in
-      fewer Rest (λ n. rw (lt-leb (suc (suc n)) 1 (omega arith)) (ap (λ (k : ℕ). More (Rest k)) (omega arith)))
-      5 left (f .0) (f .1) (more 0x10 (omega arith) refl actions)
+  rest left h = let f = between-facts 1 5 left h in fewer 5 left (f .0) (f .1) (more 0x10 (omega arith) refl actions) where
+    -- fewer and fewer of its bytes are left
+    fewer : (k n : ℕ) → 1 ≤ n → n ≤ k → Beginning g (Rest k) → Beginning g (Rest n)
+    fewer zero n l h s = absurd (omega arith)
+    fewer (suc zero) n l h s = subst (λ (i : ℕ). Beginning g (Rest i)) (omega arith) s
+    fewer (suc (suc k)) n l h s =
+        ⊎-elim (λ e. subst (λ (i : ℕ). Beginning g (Rest i)) (sym e) s)
+        (λ m.
+        fewer (suc k) n l (omega arith)
+        (more 0 (omega arith) (rw (lt-leb (suc (suc k)) 1 (omega arith)) (ap (λ (i : ℕ). More (Rest i)) (omega arith))) s))
+        (eq-or-lt-of-le h)
+
+  -- ---- a define of downloads
 
   -- the define's a
   define-a : g .downloads ≡ true → Beginning g DownloadA
@@ -131,21 +146,64 @@ module _ (g : Module) where
   unfolding readOf
   define-to d from h l = more from l (rw h) (define-from d)
 
-  -- the width of a glyph
-  glyph-width : g .downloads ≡ true → (code last : ℕ) → leb 0x20 code ≡ true → leb code last ≡ true → code < 256 → last < 256
-      → Beginning g (GlyphWidth code last)
-  unfolding readOf
-  glyph-width d code last h e l m = more last m (rw e) (define-to d code h l)
+  -- a download's columns, one after the other
+  glyph-columns : (d : Batch) (c : Columns) → columnsOk c ≡ true → ColumnsFit c → Beginning g (GlyphWidth d) → Beginning g (GlyphByte d c)
+  unfolding readOf readColumn withColumn
+  glyph-columns d c h f s =
+      let e = columns-facts c h in
+      subst (λ (k : Columns). Beginning g (GlyphByte d k)) (first-all c (e .2)) (come (c .come) (omega arith)) where
+        -- those are bytes
+        byte : (n : ℕ) → columnOf c n < 256
+        byte zero = f .2
+        byte (suc zero) = f .3
+        byte (suc (suc zero)) = f .4
+        byte (suc (suc (suc zero))) = f .5
+        byte (suc (suc (suc (suc zero)))) = f .6
+        byte (suc (suc (suc (suc (suc zero))))) = f .7
+        byte (suc (suc (suc (suc (suc (suc zero)))))) = f .8
+        byte (suc (suc (suc (suc (suc (suc (suc n))))))) = omega arith
 
-  -- a byte of a glyph, 7 of them at most
-  glyph-byte : (code last left : ℕ) → between 1 7 left ≡ true → Beginning g (GlyphWidth code last)
-      → Beginning g (GlyphByte code last left)
-  unfolding readOf readGlyphByte
-  glyph-byte code last left h s =
-      let f = between-facts 1 7 left h in
-      fewer (GlyphByte code last)
-      (λ n. rw (lt-leb (suc (suc n)) 1 (omega arith)) (ap (λ (k : ℕ). More (GlyphByte code last k)) (omega arith)))
-      7 left (f .0) (f .1) (more 7 (omega arith) refl s)
+        -- the first n of them
+        come : (n : ℕ) → n < c .width → Beginning g (GlyphByte d (firstOf c n))
+        come zero l = more (c .width) (f .0) (rw (columns-facts c h .0)) s
+        come (suc n) l =
+            more (columnOf c n) (byte n)
+            (rw (lt-ltb (n + 1) (c .width) (omega arith)) (ap (λ (k : Columns). More (GlyphByte d k)) (first-more c n ∙ ap (firstOf c) (add-one n))))
+            (come n (omega arith))
+
+  -- five columns of zeros, but the last of them
+  abbrev fiveZeros : Columns
+  fiveZeros = record { width = 5; come = 4; c0 = 0; c1 = 0; c2 = 0; c3 = 0; c4 = 0; c5 = 0; c6 = 0 }
+
+  -- the width of the code that n codes of its define stand before
+  codes : g .downloads ≡ true → (n : ℕ) (d : Batch) → d .first + n ≡ d .code → d .code ≤ d .last → leb 0x20 (d .first) ≡ true
+      → BatchFits d → Beginning g (GlyphWidth d)
+  unfolding readOf readColumn withColumn columnsOk restBlank
+  codes k zero d e o h f =
+      let first : d .first ≡ d .code = omega arith in
+      subst (λ (i : ℕ). Beginning g (GlyphWidth (batch (d .first) i (d .last) (d .dropped)))) first
+      (again (batch (d .first) (d .first) (d .last) false) (d .dropped)
+      (more (d .last) (f .2) (rw (le-leb (d .first) (d .last) (omega arith))) (define-to k (d .first) h (f .0))))
+  codes k (suc n) d e o h f =
+      let before = batch (d .first) (d .first + n) (d .last) (d .dropped) in
+      let after : d .first + n + 1 ≡ d .code = omega arith in
+      subst (λ (i : ℕ). Beginning g (GlyphWidth (batch (d .first) i (d .last) (d .dropped)))) after
+      (glyph before (withColumn fiveZeros 0) refl (lt-ltb (d .first + n) (d .last) (omega arith))
+      (glyph-columns before fiveZeros refl (omega arith) (codes k n before refl (omega arith) h (f .0, omega arith, f .2))))
+
+  -- any accepted one
+  glyph-width : g .downloads ≡ true → (d : Batch) → batchOk d ≡ true → BatchFits d → Beginning g (GlyphWidth d)
+  unfolding batchOk
+  glyph-width k d h f =
+      let o = both-of (leb 0x20 (d .first)) _ h in
+      let c = both-of (leb (d .first) (d .code)) (leb (d .code) (d .last)) (o .1) in
+      let l = leb-true (d .first) (d .code) (c .0) in
+      codes k (d .code - d .first) d (omega arith) (leb-true (d .code) (d .last) (c .1)) (o .0) f
+
+  -- a download to be erased
+  erase-a : g .downloads ≡ true → Beginning g EraseA
+  unfolding readOf readEscape
+  erase-a d = more 0x3F (omega arith) (rw d) escape
 
   -- ---- 16-bit parameters
 
@@ -284,15 +342,11 @@ module _ (g : Module) where
   ok-begins DownloadFrom h f = define-from h
   ok-begins (DownloadTo from) h f =
       let d = both-of (g .downloads) (leb 0x20 from) h in define-to (d .0) from (d .1) f
-  ok-begins (GlyphWidth code last) h f =
-      let d = both-of (g .downloads) _ h in
-      let c = both-of (leb 0x20 code) (leb code last) (d .1) in
-      glyph-width (d .0) code last (c .0) (c .1) (f .0) (f .1)
-  ok-begins (GlyphByte code last left) h f =
-      let d = both-of (g .downloads) _ h in
-      let c = both-of (leb 0x20 code) _ (d .1) in
-      let l = both-of (leb code last) _ (c .1) in
-      glyph-byte code last left (l .1) (glyph-width (d .0) code last (c .0) (l .0) (f .0) (f .1))
+  ok-begins (GlyphWidth d) h f = let e = both-of (g .downloads) (batchOk d) h in glyph-width (e .0) d (e .1) f
+  ok-begins (GlyphByte d c) h f =
+      let e = both-of (g .downloads) _ h in
+      let b = both-of (batchOk d) (columnsOk c) (e .1) in
+      glyph-columns d c (b .1) (f .1) (glyph-width (e .0) d (b .0) (f .0))
   ok-begins (Low w) h f = low w h f
   ok-begins (High w low-byte) h f = more low-byte (f .1) refl (low w h (f .0))
   ok-begins (ImageKind width height) h f = image-kind width height h (f .0) (f .1)
@@ -302,3 +356,5 @@ module _ (g : Module) where
   ok-begins SelectA h f = more 0x01 (omega arith) refl windows
   ok-begins WindowA h f = window-a
   ok-begins (WindowB a) h f = window-b a h f
+  ok-begins EraseA h f = erase-a h
+  ok-begins (EraseCode a) h f = more a f refl (erase-a h)

@@ -20,7 +20,7 @@ one-at-most o = at-most (outcomeNumber o) (eqb (outcomeNumber o) 10) refl where
   at-most n true e = let ten = eqb-true n 10 e in rw (lt-leb 11 n (omega arith)) (omega arith)
   at-most n false e = one (leb 11 n)
 
--- an outcome that is no 9 and no 10 is "answered 11 to 17"
+-- an outcome that is no 9 and no 10 is "answered 11 to 17", or 18 or 19
 pub counts-as : (o : Outcome) → 11 ≤ outcomeNumber o → (carriedBy o ≡ 0) × (answeredBy o ≡ 1)
 unfolding carriedBy answeredBy
 counts-as o l = rw (ne-eqb (outcomeNumber o) 10 (omega arith), le-leb 11 (outcomeNumber o) l) (refl, refl)

@@ -5,10 +5,9 @@ use mathlib.Core.List.{List}
 use Prim.Native.Nat.{ℕ, zero, suc, _+_, _*_, _-_, _/_, _<_, _≤_}
 use native.Mathlib.Omega.{arith}
 use lib.Dec.{leb, ltb, eqb}
-use lib.ListN.{getD}
-use Rattle.paper.specs.declared.Module.{Module}
+use lib.ListN.{length, getD}
 use Rattle.paper.specs.declared.Style.{Style}
-use Rattle.paper.specs.Panel.{dot, byteOf, glyphByte, glyphDot}
+use Rattle.paper.specs.Panel.{dot, byteOf, glyphDot}
 use Rattle.paper.specs.Strokes.{among}
 use Rattle.paper.specs.Cells.{blanksLeft, cellDot, allOff, enlargedDots, penned}
 use Rattle.laws_bytes.specs.Bytes.{placedByte, glyphColumn, tallByte, cellByte, pennedByte}
@@ -41,10 +40,10 @@ blank-dot true false = dots-of (λ i. false) 0 refl
 blank-dot false t = dots-of (λ i. false) 0 refl
 
 -- a column that is the glyph's (p) or blank
-column-dot : (g : Module) (p : Bool) (row v : ℕ) → v < 256 → (i : ℕ) → i < 8
-    → (p && set (g .framed) (eqb row 0) v i) ≡ dot (placedByte g row (cond p v 0)) i
-column-dot g true row v h = placed-dot (g .framed) (eqb row 0) v h
-column-dot g false row v h = blank-dot (g .framed) (eqb row 0)
+column-dot : (f p : Bool) (row v : ℕ) → v < 256 → (i : ℕ) → i < 8
+    → (p && set f (eqb row 0) v i) ≡ dot (placedByte f row (cond p v 0)) i
+column-dot f true row v h = placed-dot f (eqb row 0) v h
+column-dot f false row v h = blank-dot f (eqb row 0)
 
 -- a glyph's column or a blank one, placed, is a byte
 column-lt : (f s t : Bool) (v : ℕ) → v < 256 → cond f (cond s (cond t v 0 / 2 * 2) (cond t v 0 / 2)) (cond t v 0) < 256
@@ -77,27 +76,27 @@ source-lt (suc (suc (suc down))) r i hd hr hi = absurd (omega arith)
 
 -- ---- a cell
 
--- a cell of a font of bytes, at a column j and a row r of it
-module _ (g : Module) (font : List ℕ) (bytes : (n : ℕ) → getD font n 0 < 256) (code w : ℕ) (y : Style) (row j r : ℕ)
+-- the cell of a glyph of bytes, framed (f) or not, at a column j and a row r of it
+module _ (f : Bool) (cols : List ℕ) (bytes : (n : ℕ) → getD cols n 0 < 256) (w : ℕ) (y : Style) (row j r : ℕ)
     (low : y .down ≤ 2) (inside : r < y .down) where
   -- its dots there are those of `cellByte`
-  pub cell-byte : byteOf (λ i. enlargedDots y (cellDot g font code w row) j (8 * r + i)) ≡ cellByte g font code w y row j r
+  pub cell-byte : byteOf (λ i. enlargedDots y (cellDot f cols w row) j (8 * r + i)) ≡ cellByte f cols w y row j r
   unfolding cellDot glyphDot cellByte
   cell-byte =
       let k = j / y .across in
-      let left = blanksLeft g w in
-      let v = glyphByte g font code (k - left) in
-      let column = placedByte g row (glyphColumn g font code w k) in
-      byteOf-same (λ i. cellDot g font code w row k ((8 * r + i) / y .down)) (λ i. dot column ((8 * r + i) / y .down))
-      (λ i h. column-dot g (among left (g .glyph) k) row v (bytes _) ((8 * r + i) / y .down) (source-lt (y .down) r i low inside h))
-      ∙ tall-byte (y .down) r column low inside (column-lt (g .framed) (eqb row 0) (among left (g .glyph) k) v (bytes _))
+      let left = blanksLeft f w in
+      let v = getD cols (k - left) 0 in
+      let column = placedByte f row (glyphColumn f cols w k) in
+      byteOf-same (λ i. cellDot f cols w row k ((8 * r + i) / y .down)) (λ i. dot column ((8 * r + i) / y .down))
+      (λ i h. column-dot f (among left (length cols) k) row v (bytes _) ((8 * r + i) / y .down) (source-lt (y .down) r i low inside h))
+      ∙ tall-byte (y .down) r column low inside (column-lt f (eqb row 0) (among left (length cols) k) v (bytes _))
 
   -- what drawing it stores there
   pub drawn-byte : (old : ℕ) → old < 256
-      → penned y (λ i. enlargedDots y (cellDot g font code w row) j (8 * r + i)) old
-      ≡ pennedByte y (cellByte g font code w y row j r) old
+      → penned y (λ i. enlargedDots y (cellDot f cols w row) j (8 * r + i)) old
+      ≡ pennedByte y (cellByte f cols w y row j r) old
   drawn-byte old h =
-      penned-byte y (λ i. enlargedDots y (cellDot g font code w row) j (8 * r + i)) old h
+      penned-byte y (λ i. enlargedDots y (cellDot f cols w row) j (8 * r + i)) old h
       ∙ ap (λ (v : ℕ). pennedByte y v old) cell-byte
 
 -- an all-off cell, at a column j and a row r of it

@@ -11,15 +11,18 @@ use borrow.Author.Tests.{leb-true, leb-false, le-leb, lt-leb, ltb-true, lt-ltb, 
 use Rattle.paper.specs.declared.Module.{Module}
 use Rattle.paper.specs.declared.Word.{Word}
 use Rattle.paper.specs.declared.Word.the-variants.{CursorX, CursorY, WindowLeft, WindowTop, WindowWidth, WindowHeight, ImageWidth, ImageHeight}
+use Rattle.paper.specs.declared.Batch.{Batch}
+use Rattle.paper.specs.declared.Columns.{Columns}
 use Rattle.paper.specs.declared.Half.{Half}
-use Rattle.paper.specs.declared.Half.the-variants.{Nothing, Escape, Unit, Group, Actions, Images, Characters, Windows, Value, Rest, DownloadA, DownloadFrom, DownloadTo, GlyphWidth, GlyphByte, Low, High, ImageKind, ImageData, EnlargeX, EnlargeY, SelectA, WindowA, WindowB}
+use Rattle.paper.specs.declared.Half.the-variants.{Nothing, Escape, Unit, Group, Actions, Images, Characters, Windows, Value, Rest, DownloadA, DownloadFrom, DownloadTo, GlyphWidth, GlyphByte, Low, High, ImageKind, ImageData, EnlargeX, EnlargeY, SelectA, WindowA, WindowB, EraseA, EraseCode}
 use Rattle.paper.specs.declared.Command.{Command}
-use Rattle.paper.specs.declared.Command.the-variants.{Character, Select, Initialise, Mode, Set, Enlarge, CursorSet, Define, Cancel, Uncarried}
-use Rattle.paper.specs.declared.Reading.the-variants.{More, Whole, ImageByte, ImageEnd}
-use Rattle.paper.specs.Reading.{between, readFirst, readEscape, readUnit, readGroup, readActions, readImages, readCharacters, readWindows, readRest, readGlyphByte, readWindowB, word16, readWord, readImage, readOf}
-use Rattle.paper.specs.Bounds.{wordOk, halfOk}
-use Rattle.laws_bytes.specs.Beginnings.{made-whole, last-stored, then-more, then-stored, Finished, BadSize, bad-width, bad-height, Fits}
+use Rattle.paper.specs.declared.Command.the-variants.{Character, Select, Initialise, Mode, Set, Enlarge, CursorSet, Define, Cancel, Uncarried, Erase}
+use Rattle.paper.specs.declared.Reading.the-variants.{More, Whole, ImageByte, ImageEnd, GlyphEnd}
+use Rattle.paper.specs.Reading.{between, readFirst, readEscape, readUnit, readGroup, readActions, readImages, readCharacters, readWindows, readRest, batch, nextCode, noColumns, withColumn, readColumn, readWindowB, word16, readWord, readImage, readOf}
+use Rattle.paper.specs.Bounds.{wordOk, batchOk, columnsOk, halfOk}
+use Rattle.laws_bytes.specs.Beginnings.{made-whole, last-stored, then-more, then-stored, last-glyph, then-glyph, Finished, BadSize, bad-width, bad-height, Fits}
 use Rattle.laws_bytes.proofs.Tests.{both-of, between-facts, between-true}
+use Rattle.laws_bytes.proofs.Columns.{columns-facts}
 use Rattle.laws_bytes.proofs.Readings.{image-facts}
 
 -- a number that exceeds a size
@@ -65,8 +68,6 @@ module _ (g : Module) where
   before-stored column row e s =
       record { bytes = 0 ∷ s .bytes; finishes = then-stored 0 column row (omega arith) e (s .finishes) }
 
-  -- ---- what is counted down
-
   -- the rest of a command that is not carried
   rest : (left : ℕ) → Finished g (Rest left)
   unfolding readOf readRest
@@ -76,31 +77,43 @@ module _ (g : Module) where
       before 0 (omega arith) (rw (lt-leb (suc (suc n)) 1 (omega arith)) (ap (λ (k : ℕ). More (Rest k)) (omega arith)))
       (rest (suc n))
 
-  -- the last byte of a glyph, which ends the define or is followed by the next code's width
-  glyph-end : (code last left : ℕ) (t : Bool) → leb left 1 ≡ true → leb last code ≡ t
-      → (t ≡ false → Finished g (GlyphWidth (code + 1) last)) → Finished g (GlyphByte code last left)
-  unfolding readOf readGlyphByte
-  glyph-end code last left true o e next = ends 0 Uncarried (omega arith) (rw (o, e))
-  glyph-end code last left false o e next = before 0 (omega arith) (rw (o, e)) (next refl)
+  -- ---- a define of downloads
 
-  -- the bytes of a glyph
-  glyph : (code last left : ℕ) → (leb last code ≡ false → Finished g (GlyphWidth (code + 1) last))
-      → Finished g (GlyphByte code last left)
-  unfolding readOf readGlyphByte
-  glyph code last zero next = glyph-end code last zero (leb last code) refl refl next
-  glyph code last (suc zero) next = glyph-end code last 1 (leb last code) refl refl next
-  glyph code last (suc (suc n)) next =
-      before 0 (omega arith)
-      (rw (lt-leb (suc (suc n)) 1 (omega arith)) (ap (λ (k : ℕ). More (GlyphByte code last k)) (omega arith)))
-      (glyph code last (suc n) next)
+  -- a download's last column, which ends the define or is followed by the next code's width
+  glyph-end : {p : Half} (d : Batch) (c : Columns) (t : Bool) → readOf g p 0 ≡ GlyphEnd d c → ltb (d .code) (d .last) ≡ t
+      → (t ≡ true → Finished g (GlyphWidth (nextCode d (d .dropped)))) → Finished g p
+  glyph-end d c true e l next =
+      record { bytes = 0 ∷ next refl .bytes; finishes = then-glyph 0 d c (d .dropped) (omega arith) e l (next refl .finishes) }
+  glyph-end d c false e l next = record { bytes = 0 ∷ []; finishes = last-glyph 0 d c (omega arith) e l }
 
-  -- the width of a glyph, n codes or fewer being left after it
-  glyphs : (n code last : ℕ) → last ≤ code + n → Finished g (GlyphWidth code last)
+  -- a download's columns, n of them after the next
+  glyph-columns : (n : ℕ) (d : Batch) (c : Columns) → c .come + 1 + n ≡ c .width
+      → (ltb (d .code) (d .last) ≡ true → Finished g (GlyphWidth (nextCode d (d .dropped)))) → Finished g (GlyphByte d c)
+  unfolding readOf readColumn withColumn
+  glyph-columns zero d c h next =
+      glyph-end d (withColumn c 0) (ltb (d .code) (d .last)) (rw (le-ltb (c .come + 1) (c .width) (omega arith))) refl next
+  glyph-columns (suc n) d c h next =
+      before 0 (omega arith) (rw (lt-ltb (c .come + 1) (c .width) (omega arith))) (glyph-columns n d (withColumn c 0) (omega arith) next)
+
+  -- a download's width, n codes or fewer being left after it
+  glyphs : (n : ℕ) (d : Batch) → d .last ≤ d .code + n → Finished g (GlyphWidth d)
   unfolding readOf
-  glyphs zero code last h =
-      before 5 (omega arith) refl (glyph code last 5 (λ e. let m = leb-false last code e in absurd (omega arith)))
-  glyphs (suc n) code last h =
-      before 5 (omega arith) refl (glyph code last 5 (λ _. glyphs n (code + 1) last (omega arith)))
+  glyphs zero d h =
+      before 5 (omega arith) refl
+      (glyph-columns 4 d (noColumns 5) (omega arith) (λ e. let m = ltb-true (d .code) (d .last) e in absurd (omega arith)))
+  glyphs (suc n) d h =
+      before 5 (omega arith) refl
+      (glyph-columns 4 d (noColumns 5) (omega arith) (λ _. glyphs n (nextCode d (d .dropped)) (omega arith)))
+
+  -- its c2, after which it has one code
+  to : (from : ℕ) → from < 256 → Finished g (DownloadTo from)
+  unfolding readOf
+  to from l = before from l (rw (le-leb from from (omega arith))) (glyphs 0 (batch from from from false) (omega arith))
+
+  -- its c1
+  from : Finished g DownloadFrom
+  unfolding readOf
+  from = before 0x20 (omega arith) refl (to 0x20 (omega arith))
 
   -- ---- 16-bit parameters, their low byte having come
 
@@ -233,12 +246,14 @@ module _ (g : Module) where
     ok-finishes Windows h f = inl (before 0x01 (omega arith) refl (ends 0 (Select 0) (omega arith) refl))
     ok-finishes (Value key) h f = inl (ends 0 (Set key 0) (omega arith) refl)
     ok-finishes (Rest left) h f = inl (rest left)
-    ok-finishes DownloadA h f =
-        inl (before 1 (omega arith) refl (before 0x20 (omega arith) refl (before 0x20 (omega arith) refl (glyphs 0 0x20 0x20 (omega arith)))))
-    ok-finishes DownloadFrom h f = inl (before 0x20 (omega arith) refl (before 0x20 (omega arith) refl (glyphs 0 0x20 0x20 (omega arith))))
-    ok-finishes (DownloadTo from) h f = inl (before from f (rw (le-leb from from (omega arith))) (glyphs 0 from from (omega arith)))
-    ok-finishes (GlyphWidth code last) h f = inl (glyphs last code last (omega arith))
-    ok-finishes (GlyphByte code last left) h f = inl (glyph code last left (λ _. glyphs last (code + 1) last (omega arith)))
+    ok-finishes DownloadA h f = inl (before 1 (omega arith) refl from)
+    ok-finishes DownloadFrom h f = inl from
+    ok-finishes (DownloadTo c) h f = inl (to c f)
+    ok-finishes (GlyphWidth d) h f = inl (glyphs (d .last) d (omega arith))
+    ok-finishes (GlyphByte d c) h f =
+        let b = both-of (batchOk d) (columnsOk c) (both-of (g .downloads) _ h .1) in
+        let e = columns-facts c (b .1) in
+        inl (glyph-columns (c .width - 1 - c .come) d c (omega (arith, e .1)) (λ _. glyphs (d .last) (nextCode d (d .dropped)) (omega arith)))
     ok-finishes (Low w) h f = inl (low w h)
     ok-finishes (High w n) h f = high w n h
     ok-finishes (ImageKind width height) h f =
@@ -251,3 +266,5 @@ module _ (g : Module) where
     ok-finishes SelectA h f = inl (ends 0 (Select 0) (omega arith) refl)
     ok-finishes WindowA h f = inl (before 1 (omega arith) refl (ends 0 (Cancel 1) (omega arith) refl))
     ok-finishes (WindowB a) h f = inl (ends 0 (Cancel a) (omega arith) refl)
+    ok-finishes EraseA h f = inl (before 1 (omega arith) refl (ends 0x20 (Erase 1 0x20) (omega arith) refl))
+    ok-finishes (EraseCode a) h f = inl (ends 0x20 (Erase a 0x20) (omega arith) refl)

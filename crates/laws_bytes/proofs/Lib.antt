@@ -5,6 +5,7 @@ pub mod Penned
 pub mod Drawn
 pub mod Tests
 pub mod Chain
+pub mod Columns
 pub mod Readings
 pub mod Beginnings
 pub mod Endings

@@ -8,19 +8,17 @@ use borrow.Author.Tests.{leb-true, leb-false, le-leb, ltb-true, lt-ltb, eqb-true
 use Rattle.paper.specs.declared.Module.{Module}
 use Rattle.paper.specs.declared.Word.{Word}
 use Rattle.paper.specs.declared.Word.the-variants.{CursorX, CursorY, WindowLeft, WindowTop, WindowWidth, WindowHeight, ImageWidth, ImageHeight}
+use Rattle.paper.specs.declared.Batch.{Batch}
+use Rattle.paper.specs.declared.Columns.{Columns}
 use Rattle.paper.specs.declared.Half.{Half}
-use Rattle.paper.specs.declared.Half.the-variants.{Nothing, Escape, Unit, Group, Actions, Images, Characters, Windows, Value, Rest, DownloadA, DownloadFrom, DownloadTo, GlyphWidth, GlyphByte, Low, High, ImageKind, ImageData, EnlargeX, EnlargeY, SelectA, WindowA, WindowB}
+use Rattle.paper.specs.declared.Half.the-variants.{Nothing, Escape, Unit, Group, Actions, Images, Characters, Windows, Value, Rest, DownloadA, DownloadFrom, DownloadTo, GlyphWidth, GlyphByte, Low, High, ImageKind, ImageData, EnlargeX, EnlargeY, SelectA, WindowA, WindowB, EraseA, EraseCode}
 use Rattle.paper.specs.declared.Reading.{Reading}
-use Rattle.paper.specs.declared.Reading.the-variants.{ImageByte}
-use Rattle.paper.specs.Reading.{between, moreIf, readMove, readFirst, readEscape, readUnit, readGroup, readActions, readImages, readCharacters, isKnown, readWindows, readRest, readGlyphByte, readWindowB, word16, readWord, readImage, readOf}
-use Rattle.paper.specs.Bounds.{wordOk, halfOk}
-use Rattle.laws_bytes.specs.Readings.{commandOk, readingOk}
+use Rattle.paper.specs.declared.Reading.the-variants.{ImageByte, GlyphEnd}
+use Rattle.paper.specs.Reading.{between, moreIf, batch, nextCode, noColumns, withColumn, readColumn, readMove, readFirst, readEscape, readUnit, readGroup, readActions, readImages, readCharacters, isKnown, readWindows, readRest, readWindowB, word16, readWord, readImage, readOf}
+use Rattle.paper.specs.Bounds.{wordOk, batchOk, restBlank, columnsOk, halfOk}
+use Rattle.laws_bytes.specs.Readings.{commandOk, wholeColumns, readingOk}
 use Rattle.laws_bytes.proofs.Tests.{both-of, between-facts, between-true}
-
--- 5 and 7 are between 1 and 7
-five-or-seven : (x : ℕ) (t : Bool) → eqb x 5 ≡ t → (t || eqb x 7) ≡ true → between 1 7 x ≡ true
-five-or-seven x true e h = rw (eqb-true x 5 e)
-five-or-seven x false e h = rw (eqb-true x 7 h)
+use Rattle.laws_bytes.proofs.Columns.{more-ok, whole-ok}
 
 module _ (g : Module) where
   -- an image of a size that the memory has, and a place of it
@@ -98,8 +96,8 @@ module _ (g : Module) where
       either (eqb b 0x40) (passes refl)
       (either (eqb b 0x52) (passes refl)
       (either (eqb b 0x74) (passes refl)
-      (either (eqb b 0x25) (either (g .downloads) (passes refl) (passes refl))
-      (either (eqb b 0x3F) (either (g .downloads) (passes refl) (passes refl))
+      (either (eqb b 0x25) (by (g .downloads) passes (λ _. passes refl))
+      (either (eqb b 0x3F) (by (g .downloads) passes (λ _. passes refl))
       (either (eqb b 0x26) (by (g .downloads) passes (λ _. passes refl)) (passes refl))))))
 
   -- after 1Fh
@@ -166,32 +164,38 @@ module _ (g : Module) where
       by (leb left 1) (λ _. passes refl)
       (λ e. let m = leb-false left 1 e in passes (between-true 1 5 (left - 1) (omega arith) (omega arith)))
 
-  -- the width of a glyph that is not carried
-  width-ok : (code last x : ℕ) → halfOk g (GlyphWidth code last) ≡ true → (eqb x 5 || eqb x 7) ≡ true
-      → halfOk g (GlyphByte code last x) ≡ true
-  unfolding halfOk
-  width-ok code last x h e =
-      let d = both-of (g .downloads) _ h in
-      let f = both-of (leb 0x20 code) (leb code last) (d .1) in
-      rw (d .0, f .0, f .1, five-or-seven x (eqb x 5) refl e)
+  -- a define's codes, of which the last may be the next
+  pub next-ok : (d : Batch) (dropped : Bool) → halfOk g (GlyphWidth d) ≡ true → ltb (d .code) (d .last) ≡ true
+      → halfOk g (GlyphWidth (nextCode d dropped)) ≡ true
+  unfolding halfOk batchOk
+  next-ok d dropped h e =
+      let f = both-of (g .downloads) _ h in
+      let o = both-of (leb 0x20 (d .first)) _ (f .1) in
+      let c = leb-true (d .first) (d .code) (both-of (leb (d .first) (d .code)) _ (o .1) .0) in
+      let l = ltb-true (d .code) (d .last) e in
+      rw (f .0, o .0, le-leb (d .first) (d .code + 1) (omega arith), le-leb (d .code + 1) (d .last) (omega arith))
 
-  -- a byte of a glyph that is not carried
-  glyph-ok : (code last left : ℕ) → halfOk g (GlyphByte code last left) ≡ true → Passes (readGlyphByte code last left)
-  unfolding readGlyphByte readingOk commandOk halfOk
-  glyph-ok code last left h =
-      let d = both-of (g .downloads) _ h in
-      let c = both-of (leb 0x20 code) _ (d .1) in
-      let l = both-of (leb code last) _ (c .1) in
-      let f = between-facts 1 7 left (l .1) in
-      by (leb left 1)
-      (λ _. by (leb last code) (λ _. passes refl)
-      (λ e.
-      let m = leb-false last code e in
-      let o = leb-true 0x20 code (c .0) in
-      passes (rw (d .0, le-leb 0x20 (code + 1) (omega arith), le-leb (code + 1) last (omega arith)))))
-      (λ e.
-      let m = leb-false left 1 e in
-      passes (rw (d .0, c .0, l .0, between-true 1 7 (left - 1) (omega arith) (omega arith))))
+  -- a download's width, with which its columns begin
+  width-ok : (d : Batch) (x : ℕ) → halfOk g (GlyphWidth d) ≡ true → (eqb x 5 || eqb x 7) ≡ true
+      → halfOk g (GlyphByte d (noColumns x)) ≡ true
+  unfolding halfOk columnsOk restBlank
+  width-ok d x h e =
+      let f = both-of (g .downloads) (batchOk d) h in
+      rw (f .0, f .1, e, lt-ltb 0 x (some x (eqb x 5) refl e))
+    where
+      some : (x : ℕ) (t : Bool) → eqb x 5 ≡ t → (t || eqb x 7) ≡ true → 0 < x
+      some x true i h = let m = eqb-true x 5 i in omega arith
+      some x false i h = let m = eqb-true x 7 h in omega arith
+
+  -- a download's next column
+  column-ok : (d : Batch) (c : Columns) (b : ℕ) → halfOk g (GlyphByte d c) ≡ true → Passes (readColumn d (withColumn c b))
+  unfolding readColumn withColumn readingOk halfOk
+  column-ok d c b h =
+      let f = both-of (g .downloads) _ h in
+      let e = both-of (batchOk d) (columnsOk c) (f .1) in
+      by (ltb (c .come + 1) (c .width))
+      (λ l. passes (rw (f .0, e .0, more-ok c b (e .1) l)))
+      (λ l. passes (rw (f .0, e .0, whole-ok c b (e .1) l)))
 
   -- a window's number is followed by which of the two
   window-ok : (a b : ℕ) → between 1 4 a ≡ true → Passes (readWindowB a b)
@@ -239,7 +243,7 @@ module _ (g : Module) where
 
   -- every half-read command
   every-ok : (p : Half) (b : ℕ) → halfOk g p ≡ true → Passes (readOf g p b)
-  unfolding readOf readingOk commandOk halfOk
+  unfolding readOf readingOk commandOk halfOk batchOk
   every-ok Nothing b h = first-ok b
   every-ok Escape b h = escape-ok b
   every-ok Unit b h = unit-ok b
@@ -254,9 +258,9 @@ module _ (g : Module) where
   every-ok DownloadFrom b h = if-ok (leb 0x20 b) (DownloadTo b) (λ e. rw (h, e))
   every-ok (DownloadTo from) b h =
       let d = both-of (g .downloads) (leb 0x20 from) h in
-      if-ok (leb from b) (GlyphWidth from b) (λ e. rw (d .0, d .1, e))
-  every-ok (GlyphWidth code last) b h = if-ok (eqb b 5 || eqb b 7) (GlyphByte code last b) (λ e. width-ok code last b h e)
-  every-ok (GlyphByte code last left) b h = glyph-ok code last left h
+      if-ok (leb from b) (GlyphWidth (batch from from b false)) (λ e. rw (d .0, d .1, le-leb from from (omega arith), e))
+  every-ok (GlyphWidth d) b h = if-ok (eqb b 5 || eqb b 7) (GlyphByte d (noColumns b)) (λ e. width-ok d b h e)
+  every-ok (GlyphByte d c) b h = column-ok d c b h
   every-ok (Low w) b h = passes h
   every-ok (High w low) b h = word-ok w (word16 low b) h
   every-ok (ImageKind width height) b h = if-ok (eqb b 1) (ImageData width height 0 0) (λ _. kind-ok width height h)
@@ -266,6 +270,8 @@ module _ (g : Module) where
   every-ok SelectA b h = passes refl
   every-ok WindowA b h = if-ok (between 1 4 b) (WindowB b) (λ e. e)
   every-ok (WindowB a) b h = window-ok a b h
+  every-ok EraseA b h = passes h
+  every-ok (EraseCode a) b h = passes refl
 
   -- ---- what carrying out may count on
 
@@ -281,3 +287,9 @@ module _ (g : Module) where
       let f = both-of (ltb column (g .columns)) _ h in
       let e = both-of (ltb row (g .rows)) _ (f .1) in
       (ltb-true column (g .columns) (f .0), ltb-true row (g .rows) (e .0), e .1)
+
+  -- a download whose last column has come: its define, and its columns
+  pub glyph-end-facts : (d : Batch) (c : Columns) → readingOk g (GlyphEnd d c) ≡ true
+      → (halfOk g (GlyphWidth d) ≡ true) × (wholeColumns c ≡ true)
+  unfolding readingOk
+  glyph-end-facts d c h = both-of (halfOk g (GlyphWidth d)) (wholeColumns c) h

@@ -3,15 +3,19 @@
 -- That the first are the ones the paper accepts is proved in proofs/Beginnings.antt, what finishes them in proofs/Endings.antt.
 use Prim.Native.Nat.{ℕ, _<_}
 use mathlib.Core.Path.{_≡_}
+use mathlib.Core.Bool.{Bool, true, false}
 use mathlib.Core.List.{List, [], _∷_, _++_}
+use lib.Dec.{ltb}
 use Rattle.paper.specs.declared.Module.{Module}
 use Rattle.paper.specs.declared.Word.{Word}
 use Rattle.paper.specs.declared.Word.the-variants.{CursorX, CursorY, WindowLeft, WindowTop, WindowWidth, WindowHeight, ImageWidth, ImageHeight}
+use Rattle.paper.specs.declared.Batch.{Batch}
+use Rattle.paper.specs.declared.Columns.{Columns}
 use Rattle.paper.specs.declared.Half.{Half}
-use Rattle.paper.specs.declared.Half.the-variants.{Nothing, Escape, Group, Actions, Images, Characters, Windows, Value, Rest, DownloadA, DownloadFrom, DownloadTo, GlyphWidth, GlyphByte, Low, High, ImageKind, ImageData, EnlargeX, EnlargeY, SelectA, WindowA, WindowB}
+use Rattle.paper.specs.declared.Half.the-variants.{Nothing, Escape, Group, Actions, Images, Characters, Windows, Value, Rest, DownloadA, DownloadFrom, DownloadTo, GlyphWidth, GlyphByte, Low, High, ImageKind, ImageData, EnlargeX, EnlargeY, SelectA, WindowA, WindowB, EraseA, EraseCode}
 use Rattle.paper.specs.declared.Command.{Command}
-use Rattle.paper.specs.declared.Reading.the-variants.{More, Whole, ImageByte, ImageEnd, Cancels}
-use Rattle.paper.specs.Reading.{readOf}
+use Rattle.paper.specs.declared.Reading.the-variants.{More, Whole, ImageByte, ImageEnd, GlyphEnd, Cancels}
+use Rattle.paper.specs.Reading.{batch, nextCode, readOf}
 
 -- the bytes, in the order in which they are read, begin a command, and this is half read after the last of them
 pub data Begins (g : Module) : List ℕ → Half → Type 0 where
@@ -19,6 +23,11 @@ pub data Begins (g : Module) : List ℕ → Half → Type 0 where
   one-more : {bs : List ℕ} {p q : Half} (b : ℕ) → Begins g bs p → b < 256 → readOf g p b ≡ More q → Begins g (bs ++ (b ∷ [])) q
   one-stored : {bs : List ℕ} {p q : Half} (b column row : ℕ) → Begins g bs p → b < 256 → readOf g p b ≡ ImageByte column row b q
       → Begins g (bs ++ (b ∷ [])) q
+  one-glyph : {bs : List ℕ} {p : Half} (b : ℕ) (d : Batch) (c : Columns) → Begins g bs p → b < 256 → readOf g p b ≡ GlyphEnd d c
+      → ltb (d .code) (d .last) ≡ true → Begins g (bs ++ (b ∷ [])) (GlyphWidth (nextCode d (d .dropped)))
+  -- whether a code was dropped is no matter of the reading rules
+  any-note : {bs : List ℕ} (d : Batch) (dropped : Bool) → Begins g bs (GlyphWidth d)
+      → Begins g bs (GlyphWidth (batch (d .first) (d .code) (d .last) dropped))
 
 -- some bytes lead to a half-read command
 pub record Beginning (g : Module) (p : Half) : Type 0 where
@@ -32,6 +41,11 @@ pub data Finishes (g : Module) : Half → List ℕ → Type 0 where
   then-more : {p q : Half} {bs : List ℕ} (b : ℕ) → b < 256 → readOf g p b ≡ More q → Finishes g q bs → Finishes g p (b ∷ bs)
   then-stored : {p q : Half} {bs : List ℕ} (b column row : ℕ) → b < 256 → readOf g p b ≡ ImageByte column row b q → Finishes g q bs
       → Finishes g p (b ∷ bs)
+  last-glyph : {p : Half} (b : ℕ) (d : Batch) (c : Columns) → b < 256 → readOf g p b ≡ GlyphEnd d c → ltb (d .code) (d .last) ≡ false
+      → Finishes g p (b ∷ [])
+  -- whatever the note of a drop
+  then-glyph : {p : Half} {bs : List ℕ} (b : ℕ) (d : Batch) (c : Columns) (dropped : Bool) → b < 256 → readOf g p b ≡ GlyphEnd d c
+      → ltb (d .code) (d .last) ≡ true → Finishes g (GlyphWidth (nextCode d dropped)) bs → Finishes g p (b ∷ bs)
 
 -- some bytes lead from a half-read command to a whole one
 pub record Finished (g : Module) (p : Half) : Type 0 where
@@ -66,6 +80,16 @@ WordFits (WindowHeight a left top width) = Byte a × Short left × Short top × 
 WordFits ImageWidth = Unit {0}
 WordFits (ImageHeight width) = Short width
 
+-- a define's codes
+abbrev pub BatchFits : Batch → Type 0
+BatchFits d = Byte (d .first) × Byte (d .code) × Byte (d .last)
+
+-- a download's columns
+abbrev pub ColumnsFit : Columns → Type 0
+ColumnsFit c =
+    Byte (c .width) × Byte (c .come)
+    × Byte (c .c0) × Byte (c .c1) × Byte (c .c2) × Byte (c .c3) × Byte (c .c4) × Byte (c .c5) × Byte (c .c6)
+
 -- every half-read command
 abbrev pub Fits : Half → Type 0
 Fits Nothing = Unit {0}
@@ -81,8 +105,8 @@ Fits (Rest left) = Byte left
 Fits DownloadA = Unit {0}
 Fits DownloadFrom = Unit {0}
 Fits (DownloadTo from) = Byte from
-Fits (GlyphWidth code last) = Byte code × Byte last
-Fits (GlyphByte code last left) = Byte code × Byte last × Byte left
+Fits (GlyphWidth d) = BatchFits d
+Fits (GlyphByte d c) = BatchFits d × ColumnsFit c
 Fits (Low w) = WordFits w
 Fits (High w low) = WordFits w × Byte low
 Fits (ImageKind width height) = Short width × Short height
@@ -92,3 +116,5 @@ Fits (EnlargeY x) = Byte x
 Fits SelectA = Unit {0}
 Fits WindowA = Unit {0}
 Fits (WindowB a) = Byte a
+Fits EraseA = Unit {0}
+Fits (EraseCode a) = Byte a

@@ -1,0 +1,4 @@
+-- The laws, each module over those above it.
+pub mod Tests
+pub mod Seek
+pub mod Places

@@ -23,7 +23,7 @@ returns c =
       set .placing .ensures .0,
     )
     (ap (λ (v : ℕ). inkOf (a .style) (tallOf (a .style .down) v))
-    (placed-byte (a .g) (a .row) (glyphColumn (a .g) (a .font .now) (a .code) (a .w) (a .k))))
+    (placed-byte (a .framed) (a .row) (glyphColumn (a .framed) (a .cols .now) (a .w) (a .k))))
 
 pub column-spec : {M : Type 1} → statement M
 column-spec =
