@@ -15,8 +15,9 @@ use Rattle.paper.specs.declared.Half.{Half}
 use Rattle.paper.specs.declared.Hold.{Hold}
 use Rattle.paper.specs.declared.Hold.the-variants.{Free, Held}
 use Rattle.paper.specs.declared.State.{State}
+use Rattle.paper.specs.Downloads.{storeLength}
 use Rattle.paper.specs.Settings.{makeState, withSpans}
-use Rattle.record_write.specs.Bytes.{holdLength, atBase, stateLength, holdBytes, windowsBytes, spansInto, tailBytes, encoded}
+use Rattle.record_write.specs.Bytes.{holdLength, atBase, stateLength, recordLength, holdBytes, windowsBytes, spansInto, tailBytes, encoded, recordOf}
 use Rattle.record_write.specs.Parts.{Put}
 
 -- ---- a part, byte by byte
@@ -79,6 +80,9 @@ tail-length s = rw (length-append (holdBytes (s .hold)), hold-length (s .hold))
 pub encoded-length : (s : State) → length (encoded s) ≡ stateLength
 unfolding encoded windowsBytes
 encoded-length s = rw (tail-length s)
+
+pub record-length : (s : State) (ds : List ℕ) → length ds ≡ storeLength → length (recordOf s ds) ≡ recordLength
+record-length s ds e = rw (length-append (encoded s) ds, encoded-length s, e)
 
 -- ---- the spans
 

@@ -176,3 +176,7 @@ tailBytes s =
 
 unfoldable pub encoded : State → List ℕ
 encoded s = settingsBytes (s .settings) ++ (windowsBytes (s .windows) ++ tailBytes s)
+
+-- the record
+abbrev pub recordOf : State → List ℕ → List ℕ
+recordOf s ds = encoded s ++ ds
