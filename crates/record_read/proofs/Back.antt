@@ -6,7 +6,7 @@ use native.Mathlib.Omega.{arith}
 use mathlib.Core.Path.{_≡_, refl, sym, ap, _∙_}
 use mathlib.Core.List.{List, [], _∷_, _++_}
 use mathlib.Core.Bool.{Bool, true, false, and-false, true≢false}
-use lib.ListN.{length, getD, take-append-drop}
+use lib.ListN.{length, getD, take, take-append-drop}
 use lib.Seq.{take-at, drop-at}
 use Rattle.paper.specs.declared.Module.{Module}
 use Rattle.paper.specs.declared.Settings.{Settings}
@@ -32,7 +32,7 @@ use Rattle.record_write.specs.Bytes.{atFirst, atSecond, atThird, atFourth, atBa
 use Rattle.record_write.specs.Bytes.{low, high, stateLength, windowsBytes, holdBytes, tailBytes, encoded, recordOf}
 use Rattle.record_write.proofs.Laid.{encoded-length}
 use Rattle.record_parts.specs.Parts.{settingsAt, cursorAt, windowFrom, spanAt, holdAt, slotsAt}
-use Rattle.record_read.specs.Record.{decoded, same, broken, stateOf, stateBytes, storeBytes}
+use Rattle.record_read.specs.Record.{decoded, same, broken, stateOf, stateIn, storeIn}
 use Rattle.record_read.proofs.Same.{same-self, same-eq}
 
 -- ---- the parts
@@ -182,12 +182,12 @@ own-bytes g l =
 
 -- ---- with the downloads
 
--- a record's two parts
-pub state-part : (s : State) (ds : List ℕ) → stateBytes (recordOf s ds) ≡ encoded s
-state-part s ds = take-at (encoded s) ds stateLength (encoded-length s)
+-- what a record was made of
+pub state-back : (s : State) (ds : List ℕ) → Sized panel s → stateIn (recordOf s ds) ≡ s
+state-back s ds z = ap stateOf (take-at (encoded s) ds stateLength (encoded-length s)) ∙ read-back s z
 
-pub store-part : (s : State) (ds : List ℕ) → storeBytes (recordOf s ds) ≡ ds
-store-part s ds = drop-at (encoded s) ds stateLength (encoded-length s)
+pub store-back : (s : State) (ds : List ℕ) → storeIn (recordOf s ds) ≡ ds
+store-back s ds = drop-at (encoded s) ds stateLength (encoded-length s)
 
 not-so : (t : Bool) → (t ≡ true → ⊥) → t ≡ false
 not-so true never = absurd (never refl)
@@ -195,16 +195,14 @@ not-so false never = refl
 
 module _ (g : Module) (l : List ℕ) where
   -- a record that stands for an accepted state is that state's, with these downloads
-  pub accepted-record : accepted g (stateOf (stateBytes l)) (storeBytes l) ≡ true
-      → l ≡ recordOf (stateOf (stateBytes l)) (storeBytes l)
+  pub accepted-record : accepted g (stateIn l) (storeIn l) ≡ true → l ≡ recordOf (stateIn l) (storeIn l)
   unfolding accepted
   accepted-record h =
       sym (take-append-drop stateLength l)
-      ∙ ap (λ (a : List ℕ). a ++ storeBytes l) (own-bytes g (stateBytes l) (both-of (stateOk g (stateOf (stateBytes l))) _ h .0))
+      ∙ ap (λ (a : List ℕ). a ++ storeIn l) (own-bytes g (take stateLength l) (both-of (stateOk g (stateIn l)) _ h .0))
 
   -- any other bytes stand for a state that is not accepted
   pub other-bytes : ((s : State) (ds : List ℕ) → accepted g s ds ≡ true → l ≡ recordOf s ds → ⊥)
-      → accepted g (stateOf (stateBytes l)) (storeBytes l) ≡ false
+      → accepted g (stateIn l) (storeIn l) ≡ false
   other-bytes never =
-      not-so (accepted g (stateOf (stateBytes l)) (storeBytes l))
-      (λ h. never (stateOf (stateBytes l)) (storeBytes l) h (accepted-record h))
+      not-so (accepted g (stateIn l) (storeIn l)) (λ h. never (stateIn l) (storeIn l) h (accepted-record h))

@@ -1,4 +1,4 @@
--- A record with nothing held and nothing half read: its bytes are its state's own. Assumes nothing.
+-- Bytes with nothing held and nothing half read: they are their state's own. Assumes nothing.
 use Prim.Native.Nat.{ℕ, zero, suc, _+_, _<_, _≤_}
 use native.Mathlib.Omega.{arith}
 use mathlib.Core.Path.{_≡_, refl, ap₂, _∙_}
@@ -38,7 +38,7 @@ zero-same (suc n) i l h =
     rw (h i (omega arith) (omega arith)) (zero-same n (suc i) l (λ k a b. h k (omega arith) (omega arith)))
 
 module _ (l : List ℕ) (bytes : (k : ℕ) → getD l k 0 < 256) (long : length l ≡ stateLength) (idle : Idle l) where
-  -- its bytes are its state's own
+  -- they are their state's own
   idle-same : same (encoded (decodedWith l Free Nothing)) l ≡ true
   unfolding holdBytes halfSlots
   idle-same =
@@ -50,6 +50,6 @@ module _ (l : List ℕ) (bytes : (k : ℕ) → getD l k 0 < 256) (long : length 
   unfolding decoded holdAt slotsAt halfOf
   decoded-idle = rw (idle atHold (omega arith) (omega arith), idle atHalf (omega arith) (omega arith))
 
-  -- the record stands for that state
+  -- they stand for that state
   pub idle-stands : decodedWith l Free Nothing ≡ stateOf l
   idle-stands = stands l decoded-idle refl idle-same

@@ -1,4 +1,4 @@
--- A record and the one of its state differ in nothing but what is held and what is half read. Assumes nothing.
+-- Bytes and those of their state differ in nothing but what is held and what is half read. Assumes nothing.
 use Prim.Native.Nat.{ℕ, zero, suc, _+_, _<_}
 use native.Mathlib.Omega.{arith}
 use mathlib.Core.Path.{_≡_, refl, sym, ap, ap₂, _∙_}
@@ -28,7 +28,7 @@ reads-all [] = refl
 reads-all (b ∷ l) = ap (λ (t : List ℕ). b ∷ t) (reads-next (length l) 0 b l ∙ reads-all l)
 
 module _ (l : List ℕ) (bytes : (k : ℕ) → getD l k 0 < 256) where
-  -- ---- parts whose bytes are the record's own
+  -- ---- parts whose bytes are the list's own
 
   -- a 16-bit number's two bytes
   two : (i : ℕ) {t t′ : List ℕ} → t ≡ t′ → low (wordAt l i) ∷ high (wordAt l i) ∷ t ≡ getD l i 0 ∷ getD l (i + 1) 0 ∷ t′
@@ -58,7 +58,7 @@ module _ (l : List ℕ) (bytes : (k : ℕ) → getD l k 0 < 256) where
   unfolding cursorAt
   base-same = two atBase (two (atBase + 2) refl)
 
-  -- ---- the whole record
+  -- ---- all of them
 
   -- its own parts
   own-parts : length l ≡ stateLength → l ≡ bytesFrom atHold 0 l ++ (bytesFrom holdLength atHold l ++ (bytesFrom halfLength atHalf l ++ bytesFrom spansLength atUpper l))
@@ -72,13 +72,13 @@ module _ (l : List ℕ) (bytes : (k : ℕ) → getD l k 0 < 256) where
         ap₂ _++_ base-same
         (ap (λ (t : List ℕ). holdBytes hold ++ (slotBytes (halfSlots half) ++ t)) (ap₂ _++_ (span-same atUpper) (span-same atLower)))
 
-    -- those of its state's record
+    -- those of its state's bytes
     state-parts : encoded (decodedWith l hold half)
         ≡ bytesFrom atHold 0 l ++ (holdBytes hold ++ (slotBytes (halfSlots half) ++ bytesFrom spansLength atUpper l))
     unfolding encoded
     state-parts = ap (λ (t : List ℕ). bytesFrom settingsLength 0 l ++ t) (ap₂ _++_ windows-same tail-same)
 
-    -- the two records are the same where these two parts are
+    -- the two are the same where these two parts are
     pub parts-decide : length l ≡ stateLength
         → same (encoded (decodedWith l hold half)) l ≡ (same (holdBytes hold) (bytesFrom holdLength atHold l) && same (slotBytes (halfSlots half)) (bytesFrom halfLength atHalf l))
     parts-decide long =

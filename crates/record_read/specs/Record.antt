@@ -38,10 +38,10 @@ broken s = withSelected s 5
 unfoldable pub stateOf : List ℕ → State
 stateOf l = cond (same (encoded (decoded l)) l) (decoded l) (broken (decoded l))
 
--- ---- a record: its state's bytes, and the downloads
+-- ---- a record: a state's bytes, and the downloads
 
-abbrev pub stateBytes : List ℕ → List ℕ
-stateBytes l = take stateLength l
+abbrev pub stateIn : List ℕ → State
+stateIn l = stateOf (take stateLength l)
 
-abbrev pub storeBytes : List ℕ → List ℕ
-storeBytes l = drop stateLength l
+abbrev pub storeIn : List ℕ → List ℕ
+storeIn l = drop stateLength l
