@@ -183,8 +183,11 @@ own-bytes g l =
 -- ---- with the downloads
 
 -- what a record was made of
+pub state-part : (s : State) (ds : List ℕ) → take stateLength (recordOf s ds) ≡ encoded s
+state-part s ds = take-at (encoded s) ds stateLength (encoded-length s)
+
 pub state-back : (s : State) (ds : List ℕ) → Sized panel s → stateIn (recordOf s ds) ≡ s
-state-back s ds z = ap stateOf (take-at (encoded s) ds stateLength (encoded-length s)) ∙ read-back s z
+state-back s ds z = ap stateOf (state-part s ds) ∙ read-back s z
 
 pub store-back : (s : State) (ds : List ℕ) → storeIn (recordOf s ds) ≡ ds
 store-back s ds = drop-at (encoded s) ds stateLength (encoded-length s)
