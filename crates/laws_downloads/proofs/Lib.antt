@@ -2,3 +2,7 @@
 pub mod Tests
 pub mod Seek
 pub mod Places
+pub mod Written
+pub mod Stored
+pub mod Kept
+pub mod Notes

@@ -4,20 +4,20 @@ use mathlib.Core.List.{List, [], _∷_, _++_}
 use Prim.Native.Nat.{ℕ}
 use Rattle.paper.specs.Panel.{panel}
 use Rattle.paper.specs.Strokes.{rectMap, grown, grownBy, refreshed, shown}
-use Rattle.paper.specs.Numbers.{refusalNumber, carriedBy, answeredBy}
+use Rattle.paper.specs.Numbers.{outcomeNumber, refusalNumber, carriedBy, answeredBy}
 use Rattle.paper.specs.Reading.{readMove, readFirst, readUnit, readGroup, readCharacters, readWindows, readWindowB, readWord, readOf}
 use Rattle.paper.specs.Settings.{withSetting, initialStyle, initialSettings, topLeft, initialState, inDomain, inEnlargement, selectable, fits, cursorOf, atCursor, inMode, insideWindow, baseView, viewOf, cursorIn}
-use Rattle.paper.specs.Bounds.{settingsOk, cursorOk, isBlank, windowOk, windowsOk, holdOk, spanOk, wordOk, halfOk, accepted}
+use Rattle.paper.specs.Bounds.{settingsOk, cursorOk, isBlank, windowOk, windowsOk, holdOk, spanOk, wordOk, halfOk, stateOk, isFree, placeOk, storeOk, halfNoteOk, defineOk, accepted}
 use Rattle.paper.specs.Cells.{cellWidth, tooLarge}
 use Rattle.paper.specs.Moves.{nextLine, nextLineUp, pushLeft, htOf, lineDown, lineDownUp, lineFeedOf}
-use Rattle.paper.specs.Carry.{notCarriedValue, isWrite, asks, isHeld, carriedOut, commandOf, takeOf, byteMeans}
+use Rattle.paper.specs.Carry.{notCarriedValue, isWrite, asks, isHeld, carriedOut, commandOf, takeOf, byteMeans, leaves, commandStore, takeStore, byteStore}
 use Rattle.paper.specs.Calls.{isAccepted, startRefusal, startCall, Feeding, next, refreshRefusal, emptied, refreshCall}
 use Rattle.laws_marked.proofs.Fed.{on, onOver, mem-of}
 use Rattle.laws_marked.specs.Marked.{Font, begun, fresh, cursorAfter, nextRefresh, cursorSet, md2, md3}
 use Rattle.laws_marked.specs.LineFeed.{lineFeedAt, wholeBase, twoRows, inWindow, LineFeed}
 
 pub line-feed : (font : List ℕ) → Font font → LineFeed font
-unfolding begun fresh startCall startRefusal isAccepted refreshCall refreshRefusal emptied refreshed shown panel rectMap grown grownBy refusalNumber carriedBy answeredBy readMove readFirst readUnit readGroup readCharacters readWindows readWindowB readWord readOf initialStyle initialSettings topLeft initialState inDomain inEnlargement selectable fits cursorOf atCursor inMode insideWindow baseView viewOf cursorIn settingsOk cursorOk isBlank windowOk windowsOk holdOk spanOk wordOk halfOk accepted cellWidth tooLarge nextLine nextLineUp pushLeft htOf lineDown lineDownUp lineFeedOf asks isHeld carriedOut commandOf takeOf byteMeans next notCarriedValue isWrite withSetting
+unfolding begun fresh startCall startRefusal isAccepted refreshCall refreshRefusal emptied refreshed shown panel rectMap grown grownBy outcomeNumber refusalNumber carriedBy answeredBy readMove readFirst readUnit readGroup readCharacters readWindows readWindowB readWord readOf initialStyle initialSettings topLeft initialState inDomain inEnlargement selectable fits cursorOf atCursor inMode insideWindow baseView viewOf cursorIn settingsOk cursorOk isBlank windowOk windowsOk holdOk spanOk wordOk halfOk stateOk isFree placeOk storeOk halfNoteOk defineOk accepted cellWidth tooLarge nextLine nextLineUp pushLeft htOf lineDown lineDownUp lineFeedOf asks isHeld carriedOut commandOf takeOf byteMeans leaves commandStore takeStore byteStore next notCarriedValue isWrite withSetting
 line-feed font f = record {
   corner = λ v l one full. rw (one, full);
   top = λ g v l one full. rw (one, full);

@@ -23,10 +23,10 @@ pub record Font (font : List ℕ) : Type 0 where
 
 -- a fresh, refreshed panel
 unfoldable pub begun : Starting
-begun = startCall panel (replicate 1024 0x3C)
+begun = startCall panel (replicate 1024 0x3C) (replicate 144 0x5A)
 
 unfoldable pub fresh : Refreshing
-fresh = refreshCall panel (begun .answer .state) (begun .mem) (replicate 224 0xC3)
+fresh = refreshCall panel (begun .answer .state) (begun .store) (begun .mem) (replicate 224 0xC3)
 
 abbrev pub freshState : State
 freshState = fresh .answer .state
@@ -38,10 +38,10 @@ n of b = replicate n b
 
 -- a piece fed to a fresh, refreshed panel; and the same over a memory of any byte b: 0 in the fresh one, 255 with every dot lit
 abbrev pub fed : List ℕ → List ℕ → Feeding
-fed font piece = feedCall panel font freshState (begun .mem) piece
+fed font piece = feedCall panel font freshState (begun .store) (begun .mem) piece
 
 abbrev pub fedOver : ℕ → List ℕ → List ℕ → Feeding
-fedOver b font piece = feedCall panel font freshState (1024 of b) piece
+fedOver b font piece = feedCall panel font freshState (begun .store) (1024 of b) piece
 
 -- what a piece came to
 abbrev pub answersTo : Feeding → ℕ
@@ -51,7 +51,7 @@ abbrev pub cursorAfter : Feeding → Cursor
 cursorAfter f = cursorOf (f .answer .state)
 
 abbrev pub nextRefresh : Feeding → ℕ
-nextRefresh f = refreshCall panel (f .answer .state) (f .mem) (fresh .glass) .answer .moved
+nextRefresh f = refreshCall panel (f .answer .state) (f .store) (f .mem) (fresh .glass) .answer .moved
 
 -- a memory by its two rows
 abbrev pub rows : List ℕ → List ℕ → List ℕ
@@ -93,18 +93,19 @@ image xL xH = 0x1F ∷ 0x28 ∷ 0x66 ∷ 0x11 ∷ xL ∷ xH ∷ []
 
 -- window 1 held after a piece that defines it
 abbrev pub held : List ℕ → List ℕ → Answer
-held font piece = holdCall panel (fed font piece .answer .state) 1
+held font piece = let f = fed font piece in holdCall panel (f .answer .state) (f .store) 1
 
 abbrev pub fedHeld : ℕ → List ℕ → List ℕ → List ℕ → Feeding
-fedHeld b font before piece = feedCall panel font (held font before .state) (1024 of b) piece
+fedHeld b font before piece = feedCall panel font (held font before .state) (fed font before .store) (1024 of b) piece
 
 -- ---- the cases
 
 pub record Marked (font : List ℕ) : Type 0 where
-  -- the fresh memory: what is said below over every byte b is said over it
+  -- the fresh memory: what is said below over every byte b is said over it; and no download is stored
   pub fresh-memory : begun .mem ≡ 1024 of 0
+  pub fresh-store : begun .store ≡ 144 of 0
   -- 1. Empty piece: no change, counts 0 and 0.
-  pub case-1 : fed font [] ≡ feeding Accepted freshState 0 0 Unfinished (begun .mem)
+  pub case-1 : fed font [] ≡ feeding Accepted freshState 0 0 Unfinished (begun .mem) (begun .store)
   -- 2. 41h: addresses 0 and 12 become 0; 2, 4, 6, 8, 10 the glyph with bit 0 cleared; cursor (7,0); next refresh moves 7.
   pub case-2 :
       ((b : ℕ) → fedOver b font (0x41 ∷ []) .mem ≡ rows (0 ∷ glyph font ++ 0 ∷ 505 of b) (512 of b))

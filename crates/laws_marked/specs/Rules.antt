@@ -7,6 +7,7 @@ use Rattle.paper.specs.declared.Command.the-variants.{Character, Tab, LineFeed,
 use Rattle.paper.specs.declared.Reading.the-variants.{ImageEnd}
 use Rattle.paper.specs.declared.State.{State}
 use Rattle.paper.specs.Panel.{panel}
+use Rattle.paper.specs.Downloads.{Faces}
 use Rattle.paper.specs.Strokes.{Rule, draw, wrapBlank, scroll, clear, image, initialise, Stroke}
 use Rattle.paper.specs.Settings.{initialState, withBase, cursor}
 use Rattle.paper.specs.Carry.{Meaning, commandOf, takeOf}
@@ -18,10 +19,10 @@ rulesOf t = map (λ (s : Stroke). s .rule) (t .strokes)
 abbrev pub at : ℕ → ℕ → ℕ → State
 at x y mode = withBase (initialState panel) (cursor x y mode)
 
-abbrev pub written : List ℕ → State → Command → List Rule
+abbrev pub written : Faces → State → Command → List Rule
 written font s c = rulesOf (commandOf panel font s c)
 
-pub record Rules (font : List ℕ) : Type 0 where
+pub record Rules (font : Faces) : Type 0 where
   pub a-character : written font (at 0 0 1) (Character 0x41) ≡ draw ∷ []
   pub a-wrap : written font (at 106 0 1) (Character 0x41) ≡ wrapBlank ∷ draw ∷ []
   pub a-wrap-scrolls : written font (at 106 1 2) (Character 0x41) ≡ wrapBlank ∷ scroll ∷ draw ∷ []

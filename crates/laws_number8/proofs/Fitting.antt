@@ -9,12 +9,14 @@ use borrow.Author.Tests.{leb-false, ltb-true}
 use Rattle.paper.specs.declared.Module.{Module}
 use Rattle.paper.specs.declared.Word.{Word}
 use Rattle.paper.specs.declared.Word.the-variants.{CursorX, CursorY, WindowLeft, WindowTop, WindowWidth, WindowHeight, ImageWidth, ImageHeight}
+use Rattle.paper.specs.declared.Batch.{Batch}
+use Rattle.paper.specs.declared.Columns.{Columns}
 use Rattle.paper.specs.declared.Half.{Half}
-use Rattle.paper.specs.declared.Half.the-variants.{Nothing, Escape, Group, Actions, Images, Characters, Windows, Value, Rest, DownloadA, DownloadFrom, DownloadTo, GlyphWidth, GlyphByte, Low, High, ImageKind, ImageData, EnlargeX, EnlargeY, SelectA, WindowA, WindowB}
+use Rattle.paper.specs.declared.Half.the-variants.{Nothing, Escape, Group, Actions, Images, Characters, Windows, Value, Rest, DownloadA, DownloadFrom, DownloadTo, GlyphWidth, GlyphByte, Low, High, ImageKind, ImageData, EnlargeX, EnlargeY, SelectA, WindowA, WindowB, EraseA, EraseCode}
 use Rattle.paper.specs.declared.Reading.{Reading}
-use Rattle.paper.specs.declared.Reading.the-variants.{More, Whole, ImageByte, ImageEnd, Cancels, UnknownCode}
-use Rattle.paper.specs.Reading.{between, moreIf, readMove, readFirst, readEscape, readUnit, readGroup, readActions, readImages, readCharacters, readWindows, readRest, readGlyphByte, readWindowB, word16, readWord, readImage, readOf}
-use Rattle.laws_bytes.specs.Beginnings.{Begins, no-byte, one-more, one-stored, WordFits, Fits}
+use Rattle.paper.specs.declared.Reading.the-variants.{More, Whole, ImageByte, ImageEnd, GlyphEnd, Cancels, UnknownCode}
+use Rattle.paper.specs.Reading.{between, moreIf, readMove, readFirst, readEscape, readUnit, readGroup, readActions, readImages, readCharacters, readWindows, readRest, batch, noColumns, withColumn, readColumn, readWindowB, word16, readWord, readImage, readOf}
+use Rattle.laws_bytes.specs.Beginnings.{Begins, no-byte, one-more, one-stored, one-glyph, any-note, WordFits, BatchFits, ColumnsFit, Fits}
 
 -- what is half read after a reading fits
 abbrev Next : Reading → Type 0
@@ -22,6 +24,7 @@ Next (More p) = Fits p
 Next (Whole c) = Unit {0}
 Next (ImageByte column row b p) = Fits p
 Next (ImageEnd column row b) = Unit {0}
+Next (GlyphEnd d c) = BatchFits d
 Next Cancels = Unit {0}
 Next UnknownCode = Unit {0}
 
@@ -44,6 +47,10 @@ either t f h = by t (λ _. f) (λ _. h)
 -- read on, or cancelled
 if-fits : (t : Bool) (p : Half) → Fits p → Fitting (moreIf t p)
 if-fits t p f = either t (fitting f) (fitting tt)
+
+-- a byte of 0
+zero-fits : 0 < 256
+zero-fits = omega arith
 
 module _ (g : Module) where
   -- a 16-bit parameter that has come whole
@@ -91,8 +98,8 @@ module _ (g : Module) where
       either (eqb b 0x40) (fitting tt)
       (either (eqb b 0x52) (fitting tt)
       (either (eqb b 0x74) (fitting tt)
-      (either (eqb b 0x25) (either (g .downloads) (fitting (omega arith)) (fitting tt))
-      (either (eqb b 0x3F) (either (g .downloads) (fitting (omega arith)) (fitting tt))
+      (either (eqb b 0x25) (either (g .downloads) (fitting tt) (fitting tt))
+      (either (eqb b 0x3F) (either (g .downloads) (fitting tt) (fitting tt))
       (either (eqb b 0x26) (either (g .downloads) (fitting tt) (fitting tt)) (fitting tt))))))
 
   unit-fits : (b : ℕ) → Fitting (readUnit b)
@@ -119,15 +126,23 @@ module _ (g : Module) where
       (either (eqb b 0x10) (fitting (omega arith))
       (either (eqb b 0x11) (fitting (omega arith)) (either (eqb b 0x40) (fitting (omega arith)) (fitting tt))))
 
-  -- a byte of a glyph
-  glyph-fits : (code last left : ℕ) → Fits (GlyphByte code last left) → Fitting (readGlyphByte code last left)
-  unfolding readGlyphByte
-  glyph-fits code last left f =
-      let l = f .1 in
-      let n = f .2 in
-      either (leb left 1)
-      (by (leb last code) (λ _. fitting tt) (λ e. let m = leb-false last code e in fitting (omega arith, l)))
-      (fitting (f .0, l, omega arith))
+  -- a column of a download
+  column-fits : (d : Batch) (c : Columns) (b : ℕ) → BatchFits d → ColumnsFit c → b < 256 → Fitting (readColumn d (withColumn c b))
+  unfolding readColumn withColumn
+  column-fits d c b f h l =
+      by (ltb (c .come + 1) (c .width))
+      (λ e.
+      let m = ltb-true (c .come + 1) (c .width) e in
+      let w = h .0 in
+      fitting (f, (w, omega arith, here 0 (h .2), here 1 (h .3), here 2 (h .4), here 3 (h .5), here 4 (h .6), here 5 (h .7), here 6 (h .8))))
+      (λ _. fitting f)
+    where
+      either-fits : (t : Bool) {x : ℕ} → x < 256 → cond t b x < 256
+      either-fits true k = l
+      either-fits false k = k
+
+      here : (n : ℕ) {x : ℕ} → x < 256 → cond (eqb (c .come) n) b x < 256
+      here n k = either-fits (eqb (c .come) n) k
 
   -- every half-read command
   next-fits : (p : Half) (b : ℕ) → Fits p → b < 256 → Fitting (readOf g p b)
@@ -146,9 +161,9 @@ module _ (g : Module) where
   next-fits (Rest left) b f l = either (leb left 1) (fitting tt) (fitting (omega arith))
   next-fits DownloadA b f l = if-fits (eqb b 1) DownloadFrom tt
   next-fits DownloadFrom b f l = if-fits (leb 0x20 b) (DownloadTo b) l
-  next-fits (DownloadTo from) b f l = if-fits (leb from b) (GlyphWidth from b) (f, l)
-  next-fits (GlyphWidth code last) b f l = if-fits (eqb b 5 || eqb b 7) (GlyphByte code last b) (f .0, f .1, l)
-  next-fits (GlyphByte code last left) b f l = glyph-fits code last left f
+  next-fits (DownloadTo from) b f l = if-fits (leb from b) (GlyphWidth (batch from from b false)) (f, f, l)
+  next-fits (GlyphWidth d) b f l = if-fits (eqb b 5 || eqb b 7) (GlyphByte d (noColumns b)) (f, (l, zero-fits, zero-fits, zero-fits, zero-fits, zero-fits, zero-fits, zero-fits, zero-fits))
+  next-fits (GlyphByte d c) b f l = column-fits d c b (f .0) (f .1) l
   next-fits (Low w) b f l = fitting (f, l)
   next-fits (High w low) b f l = let m = f .1 in word-fits w (word16 low b) (f .0) (omega arith)
   next-fits (ImageKind width height) b f l = if-fits (eqb b 1) (ImageData width height 0 0) (f .0, f .1, omega arith, omega arith)
@@ -158,9 +173,17 @@ module _ (g : Module) where
   next-fits SelectA b f l = fitting tt
   next-fits WindowA b f l = if-fits (between 1 4 b) (WindowB b) l
   next-fits (WindowB a) b f l = either (eqb b 0) (fitting tt) (if-fits (eqb b 1) (Low (WindowLeft a)) f)
+  next-fits EraseA b f l = fitting l
+  next-fits (EraseCode a) b f l = fitting tt
 
   -- what bytes lead to fits
   pub begins-fits : {bs : List ℕ} {p : Half} → Begins g bs p → Fits p
   begins-fits no-byte = tt
   begins-fits (one-more {p = p} b s l e) = rw e at (next-fits p b (begins-fits s) l) .next
   begins-fits (one-stored {p = p} b column row s l e) = rw e at (next-fits p b (begins-fits s) l) .next
+  begins-fits (one-glyph {p = p} b d c s l e m) =
+      let f : BatchFits d = rw e at (next-fits p b (begins-fits s) l) .next in
+      let n = ltb-true (d .code) (d .last) m in
+      let last = f .2 in
+      (f .0, omega arith, f .2)
+  begins-fits (any-note d dropped s) = begins-fits s

@@ -1,3 +1,5 @@
--- Number 8 is given exactly if a clause holds.
+-- Number 8 and its row.
 pub mod Fitting
+mod Tests
+mod Store
 pub mod Number8

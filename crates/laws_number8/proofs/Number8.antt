@@ -16,37 +16,21 @@ use Rattle.paper.specs.declared.Span.{Span}
 use Rattle.paper.specs.declared.Hold.{Hold}
 use Rattle.paper.specs.declared.Hold.the-variants.{Free, Held}
 use Rattle.paper.specs.declared.State.{State}
+use Rattle.paper.specs.Downloads.{widthAt}
 use Rattle.paper.specs.Strokes.{noSpan, spanOf}
 use Rattle.paper.specs.Reading.{between}
 use Rattle.paper.specs.Settings.{inDomain, inEnlargement, noWindow, isDefined, selectable, fits}
-use Rattle.paper.specs.Bounds.{settingsOk, cursorOk, isBlank, windowOk, windowsOk, holdOk, spanOk, spansOk, halfOk, accepted}
+use Rattle.paper.specs.Bounds.{settingsOk, cursorOk, isBlank, windowOk, windowsOk, holdOk, spanOk, spansOk, halfOk, stateOk, storeOk, defineOk, accepted}
 use Rattle.laws_bytes.specs.Beginnings.{Fits}
 use Rattle.laws_bytes.proofs.Tests.{both-of, between-facts, between-true}
 use Rattle.laws_bytes.proofs.Beginnings.{begins-ok, ok-begins}
 use Rattle.laws_state.specs.Parts.{Parts}
 use Rattle.laws_state.proofs.Tests.{neither}
 use Rattle.laws_state.proofs.Parts.{parts, cursor-facts, fits-facts, window-at, selected-facts, HeldWell, hold-facts}
-use Rattle.laws_number8.specs.Row.{window, Defined, Outside, NoMode, OutOfDomain, charset, codes, caret, brightness, reverse, speed, mixing, width, across, down, write, span, lastOf, Breaks, window-leaves, window-of-no-size, cursor-outside, base-cursor-outside, setting-out, mode-out, base-mode-out, saved-setting-out, undefined-selected, undefined-held, undefined-saved, held-not-selected, span-wrong, half-impossible}
-
--- ---- tests that fail
-
--- one part of a test fails
-fails : {P : Type 0} (a : Bool) {b : Bool} → (a ≡ false → P) → (b ≡ false → P) → (a && b) ≡ false → P
-fails true f h e = h e
-fails false f h e = f refl
-
--- a test that can't pass fails
-never : (t : Bool) → ¬ (t ≡ true) → t ≡ false
-never true n = absurd (n refl)
-never false n = refl
-
--- two tests of which one fails do not both pass
-not-both : {s t : Bool} → (s && t) ≡ false → s ≡ true → t ≡ true → ⊥
-not-both e p q = true≢false (sym (rw (p, q)) ∙ e)
-
--- a number that does not lie between two
-not-between : (lo hi n : ℕ) → between lo hi n ≡ false → (n < lo) ⊎ (hi < n)
-not-between lo hi n = fails (leb lo n) (λ e. inl (leb-false lo n e)) (λ e. inr (leb-false n hi e))
+use Rattle.laws_downloads.proofs.Stored.{store-length}
+use Rattle.laws_number8.proofs.Tests.{fails, never, not-both, not-between}
+use Rattle.laws_number8.proofs.Store.{store-out, define-out, once, taken-code, taken-width, used, free-note, missing-full, none-missing}
+use Rattle.laws_number8.specs.Row.{window, Defined, Outside, NoMode, OutOfDomain, charset, codes, caret, brightness, reverse, speed, mixing, width, across, down, write, switch, span, lastOf, Breaks, window-leaves, window-of-no-size, cursor-outside, base-cursor-outside, setting-out, mode-out, base-mode-out, saved-setting-out, undefined-selected, undefined-held, undefined-saved, held-not-selected, span-wrong, half-impossible, places-missing, code-twice, code-low, width-other, column-unused, define-missing, note-missing, note-wrong}
 
 -- ---- settings
 
@@ -70,10 +54,11 @@ settings-out g v =
     (fails (leb (v .speed) 31) (λ e. speed (leb-false (v .speed) 31 e))
     (fails (leb (v .width) 1) (λ e. width (leb-false (v .width) 1 e))
     (fails (leb (v .write) 1) (λ e. write (leb-false (v .write) 1 e))
+    (fails (leb (v .switch) 1) (λ e. switch (leb-false (v .switch) 1 e))
     (fails (leb (v .style .reverse) 1) (λ e. reverse (leb-false (v .style .reverse) 1 e))
     (fails (leb (v .style .mixing) 3) (λ e. mixing (leb-false (v .style .mixing) 3 e))
     (fails (between 1 4 (v .style .across)) (λ e. across (not-between 1 4 (v .style .across) e))
-    (λ e. down (not-between 1 2 (v .style .down) e)))))))))))
+    (λ e. down (not-between 1 2 (v .style .down) e))))))))))))
 
 -- a number that a test lets pass
 below : (n hi : ℕ) → leb n hi ≡ true → ¬ (hi < n)
@@ -93,6 +78,7 @@ InDomains g v =
     × (leb (v .speed) 31 ≡ true)
     × (leb (v .width) 1 ≡ true)
     × (leb (v .write) 1 ≡ true)
+    × (leb (v .switch) 1 ≡ true)
     × (leb (v .style .reverse) 1 ≡ true)
     × (leb (v .style .mixing) 3 ≡ true)
     × (between 1 4 (v .style .across) ≡ true)
@@ -108,10 +94,11 @@ in-domains g v h =
     let e = both-of (leb (v .speed) 31) _ (d .1) in
     let f = both-of (leb (v .width) 1) _ (e .1) in
     let i = both-of (leb (v .write) 1) _ (f .1) in
-    let j = both-of (leb (v .style .reverse) 1) _ (i .1) in
+    let o = both-of (leb (v .switch) 1) _ (i .1) in
+    let j = both-of (leb (v .style .reverse) 1) _ (o .1) in
     let k = both-of (leb (v .style .mixing) 3) _ (j .1) in
     let l = both-of (between 1 4 (v .style .across)) (between 1 2 (v .style .down)) (k .1) in
-    (a .0, b .0, c .0, d .0, e .0, f .0, i .0, j .0, k .0, l .0, l .1)
+    (a .0, b .0, c .0, d .0, e .0, f .0, i .0, o .0, j .0, k .0, l .0, l .1)
 
 -- the parts of a domain of several: what passes none of them is outside
 in-either : (s t : Bool) → (s || t) ≡ true → ¬ (s ≡ true) → ¬ (t ≡ true) → ⊥
@@ -133,13 +120,14 @@ settings-in g v t (brightness o n) =
     let f = both-of (g .finer) _ e in
     let b = between-facts 0x10 0x18 (v .brightness) (f .1) in
     n (f .0, b .0, b .1))
-settings-in g v t (reverse o) = below (v .style .reverse) 1 (t .7) o
+settings-in g v t (reverse o) = below (v .style .reverse) 1 (t .8) o
 settings-in g v t (speed o) = below (v .speed) 31 (t .4) o
-settings-in g v t (mixing o) = below (v .style .mixing) 3 (t .8) o
+settings-in g v t (mixing o) = below (v .style .mixing) 3 (t .9) o
 settings-in g v t (width o) = below (v .width) 1 (t .5) o
-settings-in g v t (across o) = inside 1 4 (v .style .across) (t .9) o
-settings-in g v t (down o) = inside 1 2 (v .style .down) (t .10) o
+settings-in g v t (across o) = inside 1 4 (v .style .across) (t .10) o
+settings-in g v t (down o) = inside 1 2 (v .style .down) (t .11) o
 settings-in g v t (write o) = below (v .write) 1 (t .6) o
+settings-in g v t (switch o) = below (v .switch) 1 (t .7) o
 
 -- ---- windows and cursors
 
@@ -192,9 +180,9 @@ cursor-mode : (columns rows : ℕ) (k : Cursor) → cursorOk columns rows k ≡ 
 cursor-mode columns rows k h (inl o) = let f = cursor-facts columns rows k h in omega (arith, f .2, o)
 cursor-mode columns rows k h (inr o) = let f = cursor-facts columns rows k h in omega (arith, f .3, o)
 
-module _ (g : Module) (s : State) where
+module _ (g : Module) (s : State) (ds : List ℕ) where
   -- a clause holds of a user window whose test fails
-  window-out : (k : ℕ) → 1 ≤ k → k ≤ 4 → windowOk g (window s k) ≡ false → Breaks g s
+  window-out : (k : ℕ) → 1 ≤ k → k ≤ 4 → windowOk g (window s k) ≡ false → Breaks g s ds
   unfolding windowOk fits
   window-out k l h e =
       let w = window s k in
@@ -208,7 +196,7 @@ module _ (g : Module) (s : State) where
       (cursor-out (w .width) (w .height) (w .cursor) (cursor-outside k d) (mode-out k d)) (n .1)
 
   -- of one of the four
-  windows-out : windowsOk g (s .windows) ≡ false → Breaks g s
+  windows-out : windowsOk g (s .windows) ≡ false → Breaks g s ds
   unfolding windowsOk
   windows-out =
       fails (windowOk g (window s 1)) (window-out 1 (omega arith) (omega arith))
@@ -217,11 +205,11 @@ module _ (g : Module) (s : State) where
       (window-out 4 (omega arith) (omega arith))))
 
   -- a window that can't be selected is not defined, or its record is none of a window
-  not-selectable : (k : ℕ) → selectable (s .windows) k ≡ false → (k ≢ 0 → ¬ Defined s k → Breaks g s) → Breaks g s
+  not-selectable : (k : ℕ) → selectable (s .windows) k ≡ false → (k ≢ 0 → ¬ Defined s k → Breaks g s ds) → Breaks g s ds
   unfolding selectable
   not-selectable k e undefined = go (eqb k 0) (leb k 4) (isDefined (window s k)) (isBlank (window s k)) refl refl refl refl e where
     go : (z i d b : Bool) → eqb k 0 ≡ z → leb k 4 ≡ i → isDefined (window s k) ≡ d → isBlank (window s k) ≡ b
-        → cond z true (i && d) ≡ false → Breaks g s
+        → cond z true (i && d) ≡ false → Breaks g s ds
     go true i d b z-is i-is d-is b-is q = absurd (true≢false q)
     go false false d b z-is i-is d-is b-is q =
         undefined (eqb-false k 0 z-is) (λ f. let m = leb-false k 4 i-is in let l = f .last in omega arith)
@@ -294,32 +282,39 @@ span-in g p e n o = go (eqb (p .first) 0 && eqb (p .end) 0) refl e o where
 
 -- ---- all of it
 
-module _ (g : Module) (s : State) where
-  -- a clause holds if the test fails
-  broken : accepted g s ≡ false → Breaks g s
-  unfolding accepted halfOk holdOk
-  broken =
+module _ (g : Module) (s : State) (ds : List ℕ) where
+  -- a clause on the state holds if its test fails
+  state-broken : stateOk g s ≡ false → Breaks g s ds
+  unfolding stateOk halfOk holdOk
+  state-broken =
       fails (settingsOk g (s .settings)) (λ e. setting-out (settings-out g (s .settings) e))
-      (fails (windowsOk g (s .windows)) (windows-out g s)
+      (fails (windowsOk g (s .windows)) (windows-out g s ds)
       (fails (cursorOk (g .columns) (g .rows) (s .base)) (cursor-out (g .columns) (g .rows) (s .base) base-cursor-outside base-mode-out)
       (fails (selectable (s .windows) (s .selected))
-      (λ e. not-selectable g s (s .selected) e (λ n d. undefined-selected n d))
+      (λ e. not-selectable g s ds (s .selected) e (λ n d. undefined-selected n d))
       (fails (holdOk g (s .windows) (s .selected) (s .hold)) (hold-out (s .hold) refl)
       (fails (halfOk g (s .half)) (λ e. half-impossible (λ b. true≢false (sym (begins-ok g (b .begins)) ∙ e)))
       (spans-out g (s .spans) (λ y e. let o = span-out g (span s y) e in span-wrong y (o .0) (o .1))))))))
     where
-      hold-out : (h : Hold) → s .hold ≡ h → holdOk g (s .windows) (s .selected) h ≡ false → Breaks g s
+      hold-out : (h : Hold) → s .hold ≡ h → holdOk g (s .windows) (s .selected) h ≡ false → Breaks g s ds
       hold-out Free q = λ e. absurd (true≢false e)
       hold-out (Held k back v) q =
           fails (leb 1 k)
           (λ e. let m = leb-false 1 k e in undefined-held k back v q (λ d. let l = d .first in omega arith))
           (fails (eqb k (s .selected)) (λ e. held-not-selected k back v q (eqb-false k (s .selected) e))
-          (fails (selectable (s .windows) k) (λ e. not-selectable g s k e (λ _ d. undefined-held k back v q d))
-          (fails (selectable (s .windows) back) (λ e. not-selectable g s back e (λ n d. undefined-saved k back v q n d))
+          (fails (selectable (s .windows) k) (λ e. not-selectable g s ds k e (λ _ d. undefined-held k back v q d))
+          (fails (selectable (s .windows) back) (λ e. not-selectable g s ds back e (λ n d. undefined-saved k back v q n d))
           (λ e. saved-setting-out k back v q (settings-out g v e)))))
 
+  -- a clause holds if the test fails
+  broken : accepted g s ds ≡ false → Breaks g s ds
+  unfolding accepted
+  broken =
+      fails (stateOk g s) state-broken
+      (fails (storeOk ds) (store-out g s ds) (define-out g s ds (s .hold) refl (s .half) refl))
+
   -- none does if it passes
-  module _ (p : Parts g s) where
+  module _ (p : Parts g s) (ok : storeOk ds ≡ true) (note : defineOk ds (s .hold) (s .half) ≡ true) where
     -- a defined window is where it may be
     window-in : (k : ℕ) → Defined s k
         → (fits g (window s k .left) (window s k .top) (window s k .width) (window s k .height) ≡ true)
@@ -346,7 +341,7 @@ module _ (g : Module) (s : State) where
     held-in : (k back : ℕ) (v : Settings) → s .hold ≡ Held k back v → HeldWell g (s .windows) (s .selected) k back v
     held-in k back v q = hold-facts g (s .windows) (s .selected) k back v (rw q at (p .hold))
 
-    none : Fits (s .half) → ¬ Breaks g s
+    none : Fits (s .half) → ¬ Breaks g s ds
     none f (window-leaves k d (inl o)) = let i = fits-in k d in omega arith
     none f (window-leaves k d (inr o)) = let i = fits-in k d in omega arith
     none f (window-of-no-size k d (inl o)) = let i = fits-in k d in omega arith
@@ -357,16 +352,34 @@ module _ (g : Module) (s : State) where
     none f (mode-out k d o) = cursor-mode _ _ (window s k .cursor) (window-in k d .1) o
     none f (base-mode-out o) = cursor-mode (g .columns) (g .rows) (s .base) (p .base) o
     none f (saved-setting-out k back v q o) = settings-in g v (in-domains g v (held-in k back v q .4)) o
-    none f (undefined-selected n u) = u (selectable-defined g s (s .selected) n (p .selected))
+    none f (undefined-selected n u) = u (selectable-defined g s ds (s .selected) n (p .selected))
     none f (undefined-held k back v q u) =
         let h = held-in k back v q in
         let l = h .0 in
-        u (selectable-defined g s k (λ z. omega arith) (h .2))
-    none f (undefined-saved k back v q n u) = u (selectable-defined g s back n (held-in k back v q .3))
+        u (selectable-defined g s ds k (λ z. omega arith) (h .2))
+    none f (undefined-saved k back v q n u) = u (selectable-defined g s ds back n (held-in k back v q .3))
     none f (held-not-selected k back v q n) = n (held-in k back v q .1)
     none f (span-wrong y n o) = span-in g (span s y) (spans-in g (s .spans) y (p .spans)) n o
     none f (half-impossible n) = n (ok-begins g (s .half) (p .half) f)
+    none f (places-missing n) = n (store-length ds ok)
+    none f (code-twice i k a b l q) = once ds ok i k a b l q
+    none f (code-low k t l) = let h = taken-code ds ok k t in omega arith
+    none f (width-other k t n m) = in-either (eqb (widthAt ds k) 7) _ (taken-width ds ok k t) (λ e. m (eqb-true (widthAt ds k) 7 e))
+        (λ e. n (eqb-true (widthAt ds k) 5 (both-of (eqb (widthAt ds k) 5) _ e .0)))
+    none f (column-unused k t n c) = in-either (eqb (widthAt ds k) 7) _ (taken-width ds ok k t) (λ e. n (eqb-true (widthAt ds k) 7 e))
+        (λ e. used ds k c (both-of (eqb (widthAt ds k) 5) _ e .1))
+    none f (define-missing d c h i m u) = true≢false (sym (missing-full ds d (free-note s ds note h i) c m .1) ∙ u)
+    none f (note-missing d c h i m u) = true≢false (sym (missing-full ds d (free-note s ds note h i) c m .0) ∙ u)
+    none f (note-wrong d h i n u) = true≢false (sym u ∙ none-missing ds d (free-note s ds note h i) n)
 
 -- number 8 is given exactly if a clause of its row holds, for every record whose half-read numbers fit their types
-pub number-8 : (g : Module) (s : State) → Fits (s .half) → (accepted g s ≡ false) ↔ Breaks g s
-number-8 g s f = (broken g s, λ b. never (accepted g s) (λ e. none g s (parts g s e) f b))
+pub number-8 : (g : Module) (s : State) (ds : List ℕ) → Fits (s .half) → (accepted g s ds ≡ false) ↔ Breaks g s ds
+unfolding accepted
+number-8 g s ds f = (
+  broken g s ds,
+  λ b. never (accepted g s ds)
+      (λ e.
+      let t = both-of (stateOk g s) _ e in
+      let u = both-of (storeOk ds) _ (t .1) in
+      none g s ds (parts g s (t .0)) (u .0) (u .1) f b),
+)

@@ -1,17 +1,24 @@
--- Row 8 of document 01's first table of numbers, clause by clause in its order, with the module's figures: `Breaks g s`.
+-- Row 8 of document 01's first table of numbers, clause by clause in its order, with the module's figures, and what document 02's
+-- order 2 adds to it: `Breaks g s ds`, ds being the downloads.
 -- That the paper's `accepted` fails exactly then is `number-8` in proofs/Number8. Assumes nothing.
 use mathlib.Core.Path.{_≡_}
-use mathlib.Core.Bool.{true}
+use mathlib.Core.Bool.{true, false}
+use mathlib.Core.List.{List}
 use mathlib.Core.Logic.{_≢_, _⊎_}
-use Prim.Native.Nat.{ℕ, _+_, _-_, _<_, _≤_}
-use lib.ListN.{getD}
+use Prim.Native.Nat.{ℕ, _+_, _*_, _-_, _<_, _≤_}
+use lib.ListN.{length, getD}
 use Rattle.paper.specs.declared.Module.{Module}
 use Rattle.paper.specs.declared.Settings.{Settings}
 use Rattle.paper.specs.declared.Cursor.{Cursor}
 use Rattle.paper.specs.declared.Window.{Window}
 use Rattle.paper.specs.declared.Span.{Span}
-use Rattle.paper.specs.declared.Hold.the-variants.{Held}
+use Rattle.paper.specs.declared.Batch.{Batch}
+use Rattle.paper.specs.declared.Columns.{Columns}
+use Rattle.paper.specs.declared.Half.{Half}
+use Rattle.paper.specs.declared.Half.the-variants.{GlyphWidth, GlyphByte}
+use Rattle.paper.specs.declared.Hold.the-variants.{Free, Held}
 use Rattle.paper.specs.declared.State.{State}
+use Rattle.paper.specs.Downloads.{placeLength, storeLength, codeAt, widthAt, columnAt, isStored, isFull}
 use Rattle.paper.specs.Strokes.{noSpan}
 use Rattle.paper.specs.Settings.{noWindow, windowAt}
 use Rattle.laws_bytes.specs.Beginnings.{Beginning}
@@ -54,6 +61,8 @@ pub data OutOfDomain (g : Module) (v : Settings) : Type 0 where
   down : (v .style .down < 1) ⊎ (2 < v .style .down) → OutOfDomain g v
   -- 1Fh 28h 77h: "10h a (0, 1) write mode"
   write : 1 < v .write → OutOfDomain g v
+  -- document 02, order 2: "The switch takes 0 or 1"
+  switch : 1 < v .switch → OutOfDomain g v
 
 -- row y's span, which is nothing if it is `noSpan`, 0 and 0; and its last column: the record has the column after it
 abbrev pub span : State → ℕ → Span
@@ -62,30 +71,59 @@ span s y = getD (s .spans) y noSpan
 abbrev pub lastOf : Span → ℕ
 lastOf p = p .end - 1
 
+-- place k of the downloads holds something: one of its nine bytes is not 0
+pub record Taken (ds : List ℕ) (k : ℕ) : Type 0 where
+  pub last : k < 16
+  pub byte : ℕ
+  pub inside : byte < placeLength
+  pub some : getD ds (placeLength * k + byte) 0 ≢ 0
+
+-- what is half read is a define that has come to these codes
+pub data Defines : Half → Batch → Type 0 where
+  at-width : (d : Batch) → Defines (GlyphWidth d) d
+  at-column : (d : Batch) (c : Columns) → Defines (GlyphByte d c) d
+
+-- "a code read to its last byte is not stored"
+abbrev pub Missing : List ℕ → Batch → ℕ → Type 0
+Missing ds d c = (d .first ≤ c) × (c < d .code) × (isStored ds c ≡ false)
+
 -- ---- the row
 
 -- 8: "state record breaks a bound of this paper"
-pub data Breaks (g : Module) (s : State) : Type 0 where
+pub data Breaks (g : Module) (s : State) (ds : List ℕ) : Type 0 where
   -- "a user window leaving the memory"
   window-leaves : (k : ℕ) → Defined s k
-      → (g .columns < window s k .left + window s k .width) ⊎ (g .rows < window s k .top + window s k .height) → Breaks g s
+      → (g .columns < window s k .left + window s k .width) ⊎ (g .rows < window s k .top + window s k .height) → Breaks g s ds
   -- of our record's form: a window without columns or rows is none, and the record of none is all zeros
-  window-of-no-size : (k : ℕ) → Defined s k → (window s k .width ≡ 0) ⊎ (window s k .height ≡ 0) → Breaks g s
+  window-of-no-size : (k : ℕ) → Defined s k → (window s k .width ≡ 0) ⊎ (window s k .height ≡ 0) → Breaks g s ds
   -- "a cursor outside its window"
-  cursor-outside : (k : ℕ) → Defined s k → Outside (window s k .width) (window s k .height) (window s k .cursor) → Breaks g s
-  base-cursor-outside : Outside (g .columns) (g .rows) (s .base) → Breaks g s
+  cursor-outside : (k : ℕ) → Defined s k → Outside (window s k .width) (window s k .height) (window s k .cursor) → Breaks g s ds
+  base-cursor-outside : Outside (g .columns) (g .rows) (s .base) → Breaks g s ds
   -- "a setting or, while held, a saved one outside its domain": the common settings, and each window's mode
-  setting-out : OutOfDomain g (s .settings) → Breaks g s
-  mode-out : (k : ℕ) → Defined s k → NoMode (window s k .cursor) → Breaks g s
-  base-mode-out : NoMode (s .base) → Breaks g s
-  saved-setting-out : (k back : ℕ) (v : Settings) → s .hold ≡ Held k back v → OutOfDomain g v → Breaks g s
+  setting-out : OutOfDomain g (s .settings) → Breaks g s ds
+  mode-out : (k : ℕ) → Defined s k → NoMode (window s k .cursor) → Breaks g s ds
+  base-mode-out : NoMode (s .base) → Breaks g s ds
+  saved-setting-out : (k back : ℕ) (v : Settings) → s .hold ≡ Held k back v → OutOfDomain g v → Breaks g s ds
   -- "an undefined window selected, held or, while held, saved as selected": 0 selects the base, which can't be held
-  undefined-selected : s .selected ≢ 0 → ¬ Defined s (s .selected) → Breaks g s
-  undefined-held : (k back : ℕ) (v : Settings) → s .hold ≡ Held k back v → ¬ Defined s k → Breaks g s
-  undefined-saved : (k back : ℕ) (v : Settings) → s .hold ≡ Held k back v → back ≢ 0 → ¬ Defined s back → Breaks g s
+  undefined-selected : s .selected ≢ 0 → ¬ Defined s (s .selected) → Breaks g s ds
+  undefined-held : (k back : ℕ) (v : Settings) → s .hold ≡ Held k back v → ¬ Defined s k → Breaks g s ds
+  undefined-saved : (k back : ℕ) (v : Settings) → s .hold ≡ Held k back v → back ≢ 0 → ¬ Defined s back → Breaks g s ds
   -- "a held window that is not the selected one"
-  held-not-selected : (k back : ℕ) (v : Settings) → s .hold ≡ Held k back v → k ≢ s .selected → Breaks g s
+  held-not-selected : (k back : ℕ) (v : Settings) → s .hold ≡ Held k back v → k ≢ s .selected → Breaks g s ds
   -- "a span whose first exceeds its last or whose last exceeds 511"
-  span-wrong : (y : ℕ) → span s y ≢ noSpan → (lastOf (span s y) < span s y .first) ⊎ (g .columns ≤ lastOf (span s y)) → Breaks g s
+  span-wrong : (y : ℕ) → span s y ≢ noSpan → (lastOf (span s y) < span s y .first) ⊎ (g .columns ≤ lastOf (span s y)) → Breaks g s ds
   -- "an impossible half-read command: one that is not a proper beginning of a command by the reading rules"
-  half-impossible : ¬ Beginning g (s .half) → Breaks g s
+  half-impossible : ¬ Beginning g (s .half) → Breaks g s ds
+  -- of our record's form: the downloads have 16 places
+  places-missing : length ds ≢ storeLength → Breaks g s ds
+  -- "a code twice or below 20h, a width not 5 or 7"
+  code-twice : (i k : ℕ) → Taken ds i → Taken ds k → i < k → codeAt ds i ≡ codeAt ds k → Breaks g s ds
+  code-low : (k : ℕ) → Taken ds k → codeAt ds k < 0x20 → Breaks g s ds
+  width-other : (k : ℕ) → Taken ds k → widthAt ds k ≢ 5 → widthAt ds k ≢ 7 → Breaks g s ds
+  -- of our record's form: a download of five columns has no sixth and no seventh
+  column-unused : (k : ℕ) → Taken ds k → widthAt ds k ≢ 7 → (columnAt ds k 5 ≢ 0) ⊎ (columnAt ds k 6 ≢ 0) → Breaks g s ds
+  -- "outside a hold, a half-read define of which a code read to its last byte is not stored while fewer than 16 are"
+  define-missing : (d : Batch) (c : ℕ) → s .hold ≡ Free → Defines (s .half) d → Missing ds d c → isFull ds ≡ false → Breaks g s ds
+  -- "or whose note of a drop says other than that such a code is not stored"
+  note-missing : (d : Batch) (c : ℕ) → s .hold ≡ Free → Defines (s .half) d → Missing ds d c → d .dropped ≡ false → Breaks g s ds
+  note-wrong : (d : Batch) → s .hold ≡ Free → Defines (s .half) d → ((c : ℕ) → ¬ Missing ds d c) → d .dropped ≡ true → Breaks g s ds

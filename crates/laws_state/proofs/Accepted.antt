@@ -1,8 +1,8 @@
--- Every byte, and every other call that is not refused, leaves an accepted state accepted, and writes in memory only.
+-- Every byte leaves an accepted state accepted, and writes in memory only. Its downloads are in Downloads.
 -- Assumes nothing.
 use mathlib.Core.Path.{_≡_, refl}
 use mathlib.Core.Bool.{true, or-true}
-use mathlib.Core.List.{List, [], _∷_}
+use mathlib.Core.List.{List}
 use Prim.Native.Nat.{ℕ}
 use native.Mathlib.Omega.{arith}
 use borrow.Author.Tests.{lt-ltb, not-false}
@@ -10,16 +10,17 @@ use Rattle.paper.specs.declared.Module.{Module}
 use Rattle.paper.specs.declared.Span.{Span}
 use Rattle.paper.specs.declared.Half.the-variants.{Nothing}
 use Rattle.paper.specs.declared.Command.{Command}
-use Rattle.paper.specs.declared.Command.the-variants.{Character, Back, Tab, LineFeed, Home, Clear, Return, Select, Initialise, Mode, Set, Enlarge, CursorSet, Define, Cancel, Uncarried}
+use Rattle.paper.specs.declared.Command.the-variants.{Character, Back, Tab, LineFeed, Home, Clear, Return, Select, Initialise, Mode, Set, Enlarge, CursorSet, Define, Cancel, Uncarried, Erase}
 use Rattle.paper.specs.declared.State.{State}
+use Rattle.paper.specs.Downloads.{Faces}
 use Rattle.paper.specs.Reading.{between}
 use Rattle.paper.specs.Strokes.{Stroke}
 use Rattle.paper.specs.Settings.{topLeft, initialState, inDomain, inEnlargement, withHalf, withSpans, windowAt, isDefined, selectable, fits, newWindow, defined, cursorOf, cursor, inMode, insideWindow, viewOf}
-use Rattle.paper.specs.Bounds.{isBlank, windowOk, windowsOk, holdOk, spansOk, halfOk, accepted}
+use Rattle.paper.specs.Bounds.{isBlank, windowOk, windowsOk, holdOk, spansOk, halfOk, stateOk}
 use Rattle.paper.specs.Moves.{Moved}
 use Rattle.paper.specs.Cells.{memoryRect, rangeOf}
 use Rattle.paper.specs.Carry.{moves, becomes, asks, widthNow, heightNow, carriedOut, imageStrokes, byteMeans}
-use Rattle.paper.specs.Calls.{Feeding, next, run, settled}
+use Rattle.paper.specs.Calls.{settled}
 use Rattle.laws_bytes.specs.Readings.{commandOk}
 use Rattle.laws_bytes.proofs.Tests.{between-facts}
 use Rattle.laws_state.specs.Room.{Usable, AllIn, Kept}
@@ -68,7 +69,7 @@ module _ (g : Module) (u : Usable g) where
   becomes-sound : (q : State) → Parts g q → Sound g (becomes q)
   becomes-sound q p = record { state = whole g q p; strokes = tt }
 
-  module _ (s : State) (h : accepted g s ≡ true) where
+  module _ (s : State) (h : stateOk g s ≡ true) where
     -- what lies in the range lies in memory
     view-inside : (ss : List Stroke) → AllIn (rangeOf (viewOf g s)) ss → AllIn (memoryRect g) ss
     view-inside ss k =
@@ -80,11 +81,11 @@ module _ (g : Module) (u : Usable g) where
     moved-sound t k = record { state = view-kept g u s h t k; strokes = view-inside (t .strokes) (k .inside) }
 
     -- every command that is carried out
-    pub carried-sound : (font : List ℕ) (c : Command) → commandOk c ≡ true → Allowed g s c → Sound g (carriedOut g font s c)
+    pub carried-sound : (font : Faces) (c : Command) → commandOk c ≡ true → Allowed g (font .store) s c → Sound g (carriedOut g font s c)
     unfolding carriedOut commandOk asks inMode
     carried-sound font (Character b) o a =
         let v = viewOf g s in
-        moved-sound _ (character-kept g font (s .settings .width) (s .settings .style) b v (view-room g u s h (a .room)))
+        moved-sound _ (character-kept g _ (s .settings .width) (s .settings .style) b v (view-room g u s h (a .room)))
     carried-sound font Back o a =
         moved-sound _ (back-kept g (viewOf g s) (widthNow g s) (heightNow s) (view-room g u s h (a .room)))
     carried-sound font Tab o a = moved-sound _ (ht-kept g (viewOf g s) (widthNow g s) (heightNow s) (view-room g u s h (a .room)))
@@ -118,10 +119,11 @@ module _ (g : Module) (u : Usable g) where
     carried-sound font (Cancel k) o a =
         becomes-sound _ (cancelled-parts g s (parts g s h) k (between-facts 1 4 k o .0) (a .owner))
     carried-sound font Uncarried o a = record { state = h; strokes = tt }
+    carried-sound font (Erase i code) o a = record { state = h; strokes = tt }
 
-  module _ (font : List ℕ) where
+  module _ (font : Faces) where
     -- every byte: its state is accepted, and what it writes lies in memory
-    pub byte-sound : (s : State) (b : ℕ) → accepted g s ≡ true → Sound g (byteMeans g font s b)
+    pub byte-sound : (s : State) (b : ℕ) → stateOk g s ≡ true → Sound g (byteMeans g font s b)
     unfolding halfOk
     byte-sound s b h =
         let p = parts g s h in
@@ -135,17 +137,10 @@ module _ (g : Module) (u : Usable g) where
         (λ c o a. carried-sound (withHalf s Nothing) (whole g _ (half-parts g s p Nothing refl)) font c o a)
         b (p .half)
 
-    -- THE LAW: a byte leaves an accepted state accepted
-    pub accepted-kept : (s : State) (b : ℕ) → accepted g s ≡ true → accepted g (settled (byteMeans g font s b)) ≡ true
-    accepted-kept s b h =
+    -- a byte leaves an accepted state accepted
+    pub state-kept : (s : State) (b : ℕ) → stateOk g s ≡ true → stateOk g (settled (byteMeans g font s b)) ≡ true
+    state-kept s b h =
         let f = byte-sound s b h in
         let t = byteMeans g font s b in
         let p = parts g (t .state) (f .state) in
         whole g _ (spans-parts g (t .state) p _ (marks-ok g (t .state .spans) (t .strokes) (f .strokes) (p .spans)))
-
-    -- and so does a piece
-    pub run-accepted : (f : Feeding) (bs : List ℕ) → accepted g (f .answer .state) ≡ true
-        → accepted g (run g font f bs .answer .state) ≡ true
-    unfolding next
-    run-accepted f [] h = h
-    run-accepted f (b ∷ bs) h = run-accepted (next g font f b) bs (accepted-kept (f .answer .state) b h)

@@ -18,15 +18,16 @@ use Rattle.paper.specs.declared.Half.the-variants.{Nothing}
 use Rattle.paper.specs.declared.Hold.{Hold}
 use Rattle.paper.specs.declared.Hold.the-variants.{Held}
 use Rattle.paper.specs.declared.Command.{Command}
-use Rattle.paper.specs.declared.Command.the-variants.{Character, Back, Tab, LineFeed, Home, Clear, Return, Select, Initialise, Mode, Set, Enlarge, CursorSet, Define, Cancel, Uncarried}
+use Rattle.paper.specs.declared.Command.the-variants.{Character, Back, Tab, LineFeed, Home, Clear, Return, Select, Initialise, Mode, Set, Enlarge, CursorSet, Define, Cancel, Uncarried, Erase}
 use Rattle.paper.specs.declared.Refusal.the-variants.{Accepted}
 use Rattle.paper.specs.declared.State.{State}
+use Rattle.paper.specs.Downloads.{Faces, faces}
 use Rattle.paper.specs.Strokes.{Stroke}
 use Rattle.paper.specs.Settings.{noWindow, withHalf, windowAt, withCursor, atCursor, inMode, viewOf}
-use Rattle.paper.specs.Bounds.{holdOk, halfOk, accepted}
+use Rattle.paper.specs.Bounds.{holdOk, halfOk, stateOk}
 use Rattle.paper.specs.Moves.{Moved}
 use Rattle.paper.specs.Cells.{rangeOf}
-use Rattle.paper.specs.Carry.{Meaning, moves, becomes, isHeld, asks, widthNow, heightNow, carriedOut, imageStrokes, byteMeans}
+use Rattle.paper.specs.Carry.{Meaning, moves, becomes, isHeld, asks, widthNow, heightNow, carriedOut, imageStrokes, byteMeans, byteStore}
 use Rattle.paper.specs.Calls.{isAccepted, feedRefusal, Feeding, next, run, fedNothing, feedCall, settled}
 use Rattle.laws_state.specs.Room.{Usable, AllIn, Kept}
 use Rattle.laws_state.specs.Guest.{Holding, Guest, windowRect, OnlyInside}
@@ -36,7 +37,8 @@ use Rattle.laws_state.proofs.Parts.{parts, whole, selected-window, hold
 use Rattle.laws_state.proofs.Builders.{half-parts}
 use Rattle.laws_state.proofs.Views.{view-place, view-room, view-window}
 use Rattle.laws_state.proofs.Cases.{Allowed, by-byte}
-use Rattle.laws_state.proofs.Accepted.{accepted-kept}
+use Rattle.laws_state.proofs.Downloads.{held-store}
+use Rattle.laws_state.proofs.Records.{accepted-parts, accepted-kept}
 use Rattle.laws_state.proofs.Refusals.{feed-given}
 use Rattle.laws_state.proofs.Outside.{isolated}
 
@@ -113,12 +115,12 @@ module _ (s : State) (user : eqb (s .selected) 0 ≡ false) where
   placed-within k = record { state = at-stays k; strokes = tt }
 
   -- every command that is carried out while a window is held
-  carried-within : (g : Module) → Usable g → (font : List ℕ) → accepted g s ≡ true → isHeld (s .hold) ≡ true
-      → (c : Command) → Allowed g s c → Within s (carriedOut g font s c)
+  carried-within : (g : Module) → Usable g → (font : Faces) → stateOk g s ≡ true → isHeld (s .hold) ≡ true
+      → (c : Command) → Allowed g (font .store) s c → Within s (carriedOut g font s c)
   unfolding carriedOut asks inMode
   carried-within g u font h held (Character b) a =
       let v = viewOf g s in
-      moved-within g _ (character-kept g font (s .settings .width) (s .settings .style) b v (view-room g u s h (a .room)))
+      moved-within g _ (character-kept g _ (s .settings .width) (s .settings .style) b v (view-room g u s h (a .room)))
   carried-within g u font h held Back a =
       moved-within g _ (back-kept g (viewOf g s) (widthNow g s) (heightNow s) (view-room g u s h (a .room)))
   carried-within g u font h held Tab a =
@@ -137,10 +139,11 @@ module _ (s : State) (user : eqb (s .selected) 0 ≡ false) where
   carried-within g u font h held (Define k left top width height) a = absurd (true≢false (sym held ∙ a .owner))
   carried-within g u font h held (Cancel k) a = absurd (true≢false (sym held ∙ a .owner))
   carried-within g u font h held Uncarried a = record { state = unmoved s _ refl refl refl refl; strokes = tt }
+  carried-within g u font h held (Erase k code) a = absurd (true≢false (sym held ∙ a .owner))
 
-module _ (g : Module) (u : Usable g) (font : List ℕ) where
+module _ (g : Module) (u : Usable g) (font : Faces) where
   -- every byte while a window is held
-  byte-within : (s : State) (b : ℕ) → accepted g s ≡ true → isHeld (s .hold) ≡ true → eqb (s .selected) 0 ≡ false
+  byte-within : (s : State) (b : ℕ) → stateOk g s ≡ true → isHeld (s .hold) ≡ true → eqb (s .selected) 0 ≡ false
       → Within (withHalf s Nothing) (byteMeans g font s b)
   unfolding halfOk
   byte-within s b h held user =
@@ -157,11 +160,15 @@ module _ (g : Module) (u : Usable g) (font : List ℕ) where
 
 -- ---- window k is held
 
-module _ (g : Module) (k back : ℕ) (v : Settings) (s : State) (i : Holding g k back v s) where
+module _ (g : Module) (k back : ℕ) (v : Settings) (s : State) (ds : List ℕ) (i : Holding g k back v s ds) where
+  -- its state is accepted
+  pub holding-state : stateOk g s ≡ true
+  holding-state = accepted-parts g s ds (i .accepts) .0
+
   -- the window held is the selected one, and not the base
   pub is-selected : (1 ≤ k) × (k ≡ s .selected)
   is-selected =
-      let ok = subst (λ (q : Hold). holdOk g (s .windows) (s .selected) q ≡ true) (i .held) (parts g s (i .accepts) .hold) in
+      let ok = subst (λ (q : Hold). holdOk g (s .windows) (s .selected) q ≡ true) (i .held) (parts g s holding-state .hold) in
       let f = hold-facts g (s .windows) (s .selected) k back v ok in
       (f .0, f .1)
 
@@ -172,7 +179,7 @@ module _ (g : Module) (k back : ℕ) (v : Settings) (s : State) (i : Holding g k
   -- the cursor of the window held is in it
   pub in-window : let w = windowAt (s .windows) k in (w .cursor .x < w .width) × (w .cursor .y < w .height)
   in-window =
-      let w = selected-window g s (parts g s (i .accepts)) is-user in
+      let w = selected-window g s (parts g s holding-state) is-user in
       rw (is-selected .1) (w .1 .0, w .1 .1)
 
   -- with no bytes all is kept
@@ -209,27 +216,37 @@ module _ (g : Module) (k back : ℕ) (v : Settings) (s : State) (i : Holding g k
       }
 
 module _ (g : Module) (u : Usable g) (font : List ℕ) (k back : ℕ) (v : Settings) where
-  module _ (s : State) (i : Holding g k back v s) (b : ℕ) where
+  module _ (s : State) (ds : List ℕ) (i : Holding g k back v s ds) (b : ℕ) where
+    -- what a guest's byte means
+    abbrev meant : Meaning
+    meant = byteMeans g (faces font ds) s b
+
     -- a guest's byte, by the selected window
-    within : Within (withHalf s Nothing) (byteMeans g font s b)
+    within : Within (withHalf s Nothing) meant
     unfolding isHeld
-    within = byte-within g u font s b (i .accepts) (ap isHeld (i .held)) (is-user g k back v s i)
+    within =
+        byte-within g u (faces font ds) s b (holding-state g k back v s ds i) (ap isHeld (i .held)) (is-user g k back v s ds i)
 
     -- a guest's byte writes in the window held
-    pub byte-inside : AllIn (windowRect (windowAt (s .windows) k)) (byteMeans g font s b .strokes)
-    byte-inside = rw (is-selected g k back v s i .1) (within .strokes)
+    pub byte-inside : AllIn (windowRect (windowAt (s .windows) k)) (meant .strokes)
+    byte-inside = rw (is-selected g k back v s ds i .1) (within .strokes)
+
+    -- and leaves the downloads as they are
+    pub byte-downloads : byteStore g (faces font ds) s b ≡ ds
+    unfolding isHeld
+    byte-downloads = held-store g (faces font ds) s b (ap isHeld (i .held))
 
     -- after it the window is held as before
-    pub byte-holding : Holding g k back v (settled (byteMeans g font s b))
-    byte-holding = record { accepts = accepted-kept g u font s b (i .accepts); held = within .state .hold ∙ i .held }
+    pub byte-holding : Holding g k back v (settled meant) (byteStore g (faces font ds) s b)
+    byte-holding = record { accepts = accepted-kept g u font s ds b (i .accepts); held = within .state .hold ∙ i .held }
 
     -- it keeps the hold, the selection, the base cursor, the other windows and the held window's rectangle
-    pub byte-guest : Guest k back v s (settled (byteMeans g font s b))
+    pub byte-guest : Guest k back v s (settled meant)
     byte-guest =
-        let same = is-selected g k back v s i .1 in
+        let same = is-selected g k back v s ds i .1 in
         let p = within .state in
-        let f = in-window g k back v _ byte-holding in
-        let ws = byteMeans g font s b .state .windows in
+        let f = in-window g k back v _ _ byte-holding in
+        let ws = meant .state .windows in
         let width : windowAt ws k .width ≡ windowAt (s .windows) k .width = rw same (p .width) in
         let height : windowAt ws k .height ≡ windowAt (s .windows) k .height = rw same (p .height) in
         record {
@@ -248,44 +265,64 @@ module _ (g : Module) (u : Usable g) (font : List ℕ) (k back : ℕ) (v : Setti
   -- ---- a whole piece
 
   -- a guest's bytes keep what one byte keeps
-  pub run-guest : (f : Feeding) (bs : List ℕ) → Holding g k back v (f .answer .state)
+  pub run-guest : (f : Feeding) (bs : List ℕ) → Holding g k back v (f .answer .state) (f .store)
       → Guest k back v (f .answer .state) (run g font f bs .answer .state)
   unfolding next
-  run-guest f [] i = no-guest g k back v (f .answer .state) i
+  run-guest f [] i = no-guest g k back v (f .answer .state) (f .store) i
   run-guest f (b ∷ bs) i =
-      then-guest g k back v (f .answer .state) i (settled (byteMeans g font (f .answer .state) b)) _
-      (byte-guest (f .answer .state) i b) (run-guest (next g font f b) bs (byte-holding (f .answer .state) i b))
+      let s = f .answer .state in
+      then-guest g k back v s (f .store) i (settled (meant s (f .store) i b)) _
+      (byte-guest s (f .store) i b) (run-guest (next g font f b) bs (byte-holding s (f .store) i b))
 
-  -- and change no cell outside the window held
-  pub run-outside : (f : Feeding) (bs : List ℕ) → Holding g k back v (f .answer .state)
+  -- change no cell outside the window held
+  pub run-outside : (f : Feeding) (bs : List ℕ) → Holding g k back v (f .answer .state) (f .store)
       → OnlyInside g k (f .answer .state) (f .mem) (run g font f bs .mem)
   unfolding next
   run-outside f [] i = record { same = λ a out. refl }
   run-outside f (b ∷ bs) i =
       let s = f .answer .state in
-      let q = byte-guest s i b in
+      let q = byte-guest s (f .store) i b in
       record {
         same = λ a out.
-            run-outside (next g font f b) bs (byte-holding s i b) .same a (rw (q .left, q .top, q .width, q .height) out)
-            ∙ isolated g (windowRect (windowAt (s .windows) k)) a out (f .mem) (byteMeans g font s b .strokes)
-            (byte-inside s i b);
+            run-outside (next g font f b) bs (byte-holding s (f .store) i b) .same a (rw (q .left, q .top, q .width, q .height) out)
+            ∙ isolated g (windowRect (windowAt (s .windows) k)) a out (f .mem) (meant s (f .store) i b .strokes)
+            (byte-inside s (f .store) i b);
       }
+
+  -- and no download
+  pub run-downloads : (f : Feeding) (bs : List ℕ) → Holding g k back v (f .answer .state) (f .store)
+      → run g font f bs .store ≡ f .store
+  unfolding next
+  run-downloads f [] i = refl
+  run-downloads f (b ∷ bs) i =
+      run-downloads (next g font f b) bs (byte-holding (f .answer .state) (f .store) i b)
+      ∙ byte-downloads (f .answer .state) (f .store) i b
 
   -- ---- a feed, refused or not
 
   -- a feed keeps what a byte keeps
-  pub feed-guest : (s : State) (m piece : List ℕ) → Holding g k back v s
-      → Guest k back v s (feedCall g font s m piece .answer .state)
+  pub feed-guest : (s : State) (ds m piece : List ℕ) → Holding g k back v s ds
+      → Guest k back v s (feedCall g font s ds m piece .answer .state)
   unfolding feedCall
-  feed-guest s m piece i =
-      by-cond (λ (q : Feeding). Guest k back v s (q .answer .state)) (isAccepted (feedRefusal g font s m))
-      (λ _. run-guest (fedNothing Accepted s m) piece i) (λ _. no-guest g k back v s i)
+  feed-guest s ds m piece i =
+      by-cond (λ (q : Feeding). Guest k back v s (q .answer .state)) (isAccepted (feedRefusal g font s ds m))
+      (λ _. run-guest (fedNothing Accepted s ds m) piece i) (λ _. no-guest g k back v s ds i)
 
-  -- and changes no cell outside its window, whatever the state record
-  pub feed-outside : (s : State) (m piece : List ℕ) → s .hold ≡ Held k back v
-      → OnlyInside g k s m (feedCall g font s m piece .mem)
-  unfolding feedCall
-  feed-outside s m piece h =
-      by-cond (λ (q : Feeding). OnlyInside g k s m (q .mem)) (isAccepted (feedRefusal g font s m))
-      (λ e. run-outside (fedNothing Accepted s m) piece (record { accepts = feed-given g font s m e .2; held = h }))
-      (λ _. record { same = λ a out. refl })
+  module _ (s : State) (ds m piece : List ℕ) (h : s .hold ≡ Held k back v) where
+    -- one that is not refused begins with an accepted state
+    given : isAccepted (feedRefusal g font s ds m) ≡ true → Holding g k back v s ds
+    given e = record { accepts = feed-given g font s ds m e .2; held = h }
+
+    -- it changes no cell outside its window, whatever the state record
+    pub feed-outside : OnlyInside g k s m (feedCall g font s ds m piece .mem)
+    unfolding feedCall
+    feed-outside =
+        by-cond (λ (q : Feeding). OnlyInside g k s m (q .mem)) (isAccepted (feedRefusal g font s ds m))
+        (λ e. run-outside (fedNothing Accepted s ds m) piece (given e)) (λ _. record { same = λ a out. refl })
+
+    -- and no download
+    pub feed-downloads : feedCall g font s ds m piece .store ≡ ds
+    unfolding feedCall
+    feed-downloads =
+        by-cond (λ (q : Feeding). q .store ≡ ds) (isAccepted (feedRefusal g font s ds m))
+        (λ e. run-downloads (fedNothing Accepted s ds m) piece (given e)) (λ _. refl)

@@ -7,10 +7,11 @@ use lib.ListN.{length}
 use Rattle.paper.specs.declared.Module.{Module}
 use Rattle.paper.specs.declared.Refusal.the-variants.{Accepted}
 use Rattle.paper.specs.declared.State.{State}
+use Rattle.paper.specs.Downloads.{faces}
 use Rattle.paper.specs.Strokes.{applyAll}
 use Rattle.paper.specs.Numbers.{refusalNumber, carriedBy, answeredBy}
-use Rattle.paper.specs.Carry.{byteMeans}
-use Rattle.paper.specs.Calls.{Feeding, isAccepted, feedRefusal, next, run, fedNothing, feedCall, settled}
+use Rattle.paper.specs.Carry.{Meaning, byteMeans, byteStore}
+use Rattle.paper.specs.Calls.{Feeding, isAccepted, feedRefusal, facesNow, next, run, fedNothing, feedCall, settled}
 use Rattle.laws_state.specs.Joined.{Joined}
 
 module _ (g : Module) (font : List ℕ) where
@@ -20,10 +21,10 @@ module _ (g : Module) (font : List ℕ) where
   run-append f (x ∷ a) b = run-append (next g font f x) a b
 
   -- an accepted feed runs over its piece
-  pub feed-runs : (s : State) (m piece : List ℕ) → feedRefusal g font s m ≡ Accepted
-      → feedCall g font s m piece ≡ run g font (fedNothing Accepted s m) piece
+  pub feed-runs : (s : State) (ds m piece : List ℕ) → feedRefusal g font s ds m ≡ Accepted
+      → feedCall g font s ds m piece ≡ run g font (fedNothing Accepted s ds m) piece
   unfolding feedCall isAccepted refusalNumber
-  feed-runs s m piece e = rw e
+  feed-runs s ds m piece e = rw e
 
   -- no byte has a feed refused
   pub run-refusal : (f : Feeding) (bs : List ℕ) → run g font f bs .answer .refusal ≡ f .answer .refusal
@@ -31,11 +32,16 @@ module _ (g : Module) (font : List ℕ) where
   run-refusal f [] = refl
   run-refusal f (b ∷ bs) = run-refusal (next g font f b) bs
 
+  -- what a byte means to a feed
+  abbrev meant : Feeding → ℕ → Meaning
+  meant f b = byteMeans g (facesNow font f) (f .answer .state) b
+
   -- a feed that is c and a ahead of another in its counts, and like it in all else but the last outcome
   record Ahead (c a : ℕ) (f h : Feeding) : Type 0 where
     refusal : h .answer .refusal ≡ f .answer .refusal
     state : h .answer .state ≡ f .answer .state
     mem : h .mem ≡ f .mem
+    store : h .store ≡ f .store
     carried : h .answer .carried ≡ c + f .answer .carried
     answered : h .answer .answered ≡ a + f .answer .answered
 
@@ -44,12 +50,14 @@ module _ (g : Module) (font : List ℕ) where
     next-ahead : (f h : Feeding) (b : ℕ) → Ahead c a f h → Ahead c a (next g font f b) (next g font h b)
     unfolding next
     next-ahead f h b p =
+        let alike : meant h b ≡ meant f b = ap₂ (λ (s : State) (ds : List ℕ). byteMeans g (faces font ds) s b) (p .state) (p .store) in
         record {
           refusal = p .refusal;
-          state = ap (λ (s : State). settled (byteMeans g font s b)) (p .state);
-          mem = ap₂ (λ (s : State) (m : List ℕ). applyAll g m (byteMeans g font s b .strokes)) (p .state) (p .mem);
-          carried = omega (arith, p .carried, ap (λ (s : State). carriedBy (byteMeans g font s b .outcome)) (p .state));
-          answered = omega (arith, p .answered, ap (λ (s : State). answeredBy (byteMeans g font s b .outcome)) (p .state));
+          state = ap settled alike;
+          mem = ap₂ (λ (m : List ℕ) (t : Meaning). applyAll g m (t .strokes)) (p .mem) alike;
+          store = ap₂ (λ (s : State) (ds : List ℕ). byteStore g (faces font ds) s b) (p .state) (p .store);
+          carried = omega (arith, p .carried, ap (λ (t : Meaning). carriedBy (t .outcome)) alike);
+          answered = omega (arith, p .answered, ap (λ (t : Meaning). answeredBy (t .outcome)) alike);
         }
 
     -- and so does a piece
@@ -61,7 +69,7 @@ module _ (g : Module) (font : List ℕ) where
     next-outcome : (f h : Feeding) (b : ℕ) → Ahead c a f h
         → next g font h b .answer .outcome ≡ next g font f b .answer .outcome
     unfolding next
-    next-outcome f h b p = ap (λ (s : State). byteMeans g font s b .outcome) (p .state)
+    next-outcome f h b p = ap₂ (λ (s : State) (ds : List ℕ). byteMeans g (faces font ds) s b .outcome) (p .state) (p .store)
 
     -- so has a piece that follows equal outcomes
     run-outcome : (f h : Feeding) (bs : List ℕ) → Ahead c a f h → h .answer .outcome ≡ f .answer .outcome
@@ -78,19 +86,20 @@ module _ (g : Module) (font : List ℕ) where
         run-outcome (next g font f b) (next g font h b) bs (next-ahead f h b p) (next-outcome f h b p)
 
   -- running over the second piece with the counts anew
-  run-joined : (s : State) (m a b : List ℕ)
-      → let first = run g font (fedNothing Accepted s m) a in
-      Joined b first (run g font (fedNothing Accepted (first .answer .state) (first .mem)) b)
-      (run g font (fedNothing Accepted s m) (a ++ b))
-  run-joined s m a b =
-      let first = run g font (fedNothing Accepted s m) a in
-      let anew = fedNothing Accepted (first .answer .state) (first .mem) in
+  run-joined : (s : State) (ds m a b : List ℕ)
+      → let first = run g font (fedNothing Accepted s ds m) a in
+      Joined b first (run g font (fedNothing Accepted (first .answer .state) (first .store) (first .mem)) b)
+      (run g font (fedNothing Accepted s ds m) (a ++ b))
+  run-joined s ds m a b =
+      let first = run g font (fedNothing Accepted s ds m) a in
+      let anew = fedNothing Accepted (first .answer .state) (first .store) (first .mem) in
       let c = first .answer .carried in
       let n = first .answer .answered in
       let start : Ahead c n anew first = record {
-        refusal = run-refusal (fedNothing Accepted s m) a;
+        refusal = run-refusal (fedNothing Accepted s ds m) a;
         state = refl;
         mem = refl;
+        store = refl;
         carried = omega arith;
         answered = omega arith;
       } in
@@ -100,15 +109,16 @@ module _ (g : Module) (font : List ℕ) where
         refusal = p .refusal;
         state = p .state;
         mem = p .mem;
+        store = p .store;
         carried = p .carried;
         answered = p .answered;
         outcome = last-outcome c n anew first b start;
       })
 
   -- feeding a and then b, neither refused, is feeding them joined
-  pub feed-joined : (s : State) (m a b : List ℕ) → feedRefusal g font s m ≡ Accepted
-      → feedRefusal g font (feedCall g font s m a .answer .state) (feedCall g font s m a .mem) ≡ Accepted
-      → Joined b (feedCall g font s m a)
-      (feedCall g font (feedCall g font s m a .answer .state) (feedCall g font s m a .mem) b) (feedCall g font s m (a ++ b))
-  feed-joined s m a b e h =
-      rw (feed-runs _ _ b h, feed-runs s m a e, feed-runs s m (a ++ b) e) (run-joined s m a b)
+  pub feed-joined : (s : State) (ds m a b : List ℕ) → feedRefusal g font s ds m ≡ Accepted
+      → let first = feedCall g font s ds m a in
+      feedRefusal g font (first .answer .state) (first .store) (first .mem) ≡ Accepted
+      → Joined b first (feedCall g font (first .answer .state) (first .store) (first .mem) b) (feedCall g font s ds m (a ++ b))
+  feed-joined s ds m a b e h =
+      rw (feed-runs _ _ _ b h, feed-runs s ds m a e, feed-runs s ds m (a ++ b) e) (run-joined s ds m a b)

@@ -10,6 +10,8 @@ use Rattle.paper.specs.declared.Module.{Module}
 use Rattle.paper.specs.declared.Rect.{Rect}
 use Rattle.paper.specs.declared.Style.{Style}
 use Rattle.paper.specs.declared.View.{View}
+use Rattle.paper.specs.Panel.{isFramed}
+use Rattle.paper.specs.Downloads.{Faces, glyphOf}
 use Rattle.paper.specs.Strokes.{Rule, draw, wrapBlank, Stroke}
 use Rattle.paper.specs.Cells.{Dots, cellDot, allOff, cellWidth, cellHeight, rangeOf, cellStroke, drawStroke, blankStroke, upStroke, leftStroke}
 use Rattle.paper.specs.Moves.{Moved, only, writing, andThen, to, nextLine, nextLineUp, pushLeft, htOf, drawTab, blankTab, characterOf, backOf, lineDown, lineDownUp, lineFeedOf, homeOf, returnOf, clearOf}
@@ -182,13 +184,14 @@ blank-kept g w y v i =
     then-kept v (writing (blankStroke g w y v) v) (λ q. htOf g q (cellWidth g w y) (cellHeight y))
     (cell-kept v g (i .place) wrapBlank y (cellWidth g w y) allOff) (ht-kept g v (cellWidth g w y) (cellHeight y) i)
 
-module _ (g : Module) (font : List ℕ) (w : ℕ) (y : Style) (code : ℕ) where
+module _ (g : Module) (font : Faces) (w : ℕ) (y : Style) (code : ℕ) where
   -- a drawn cell, then HT
   pub draw-kept : (v : View) → Room g v (cellWidth g w y) (cellHeight y) → Kept v (drawTab g font w y code v)
   unfolding drawTab
   draw-kept v i =
+      let cols = glyphOf g font code in
       then-kept v (writing (drawStroke g font w y code v) v) (λ q. htOf g q (cellWidth g w y) (cellHeight y))
-      (cell-kept v g (i .place) draw y (cellWidth g w y) (cellDot g font code w (v .top + v .y)))
+      (cell-kept v g (i .place) draw y (cellWidth g w y) (cellDot (isFramed g cols) cols w (v .top + v .y)))
       (ht-kept g v (cellWidth g w y) (cellHeight y) i)
 
   -- a drawn cell after another move

@@ -9,7 +9,7 @@ use Rattle.paper.specs.declared.Module.{Module}
 use Rattle.paper.specs.declared.Rect.{Rect}
 use Rattle.paper.specs.Strokes.{Stroke, inRect, applied, applyAll}
 use Rattle.paper.specs.Carry.{byteMeans}
-use Rattle.paper.specs.Calls.{Feeding, next, run}
+use Rattle.paper.specs.Calls.{Feeding, facesNow, next, run}
 use Rattle.laws_memory.proofs.Tests.{lt-cases, not-both}
 use Rattle.laws_memory.proofs.Rects.{InRect, rect-test}
 use Rattle.laws_memory.proofs.Strokes.{applied-length, applied-out, apply-length}
@@ -21,7 +21,7 @@ module _ (g : Module) where
   unfolding next
   length-run font f [] = refl
   length-run font f (b ∷ bs) =
-      length-run font (next g font f b) bs ∙ apply-length g (f .mem) (byteMeans g font (f .answer .state) b .strokes)
+      length-run font (next g font f b) bs ∙ apply-length g (f .mem) (byteMeans g (facesNow font f) (f .answer .state) b .strokes)
 
   module _ (q : Rect) (a : ℕ) (out : inRect g q a ≡ false) where
     -- a stroke in a rectangle leaves what lies outside it; past the memory's end there is nothing

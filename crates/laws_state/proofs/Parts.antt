@@ -14,14 +14,14 @@ use Rattle.paper.specs.declared.Hold.the-variants.{Held}
 use Rattle.paper.specs.declared.State.{State}
 use Rattle.paper.specs.Reading.{between}
 use Rattle.paper.specs.Settings.{windowAt, isDefined, selectable, fits, insideWindow}
-use Rattle.paper.specs.Bounds.{settingsOk, cursorOk, isBlank, windowOk, windowsOk, holdOk, spansOk, halfOk, accepted}
+use Rattle.paper.specs.Bounds.{settingsOk, cursorOk, isBlank, windowOk, windowsOk, holdOk, spansOk, halfOk, stateOk}
 use Rattle.laws_bytes.proofs.Tests.{both-of, between-facts, between-true}
 use Rattle.laws_state.specs.Parts.{Parts}
 
 module _ (g : Module) (s : State) where
   -- an accepted state has every part
-  pub parts : accepted g s ≡ true → Parts g s
-  unfolding accepted
+  pub parts : stateOk g s ≡ true → Parts g s
+  unfolding stateOk
   parts h =
       let settings = both-of (settingsOk g (s .settings)) _ h in
       let windows = both-of (windowsOk g (s .windows)) _ (settings .1) in
@@ -40,8 +40,8 @@ module _ (g : Module) (s : State) where
       }
 
   -- and a state with every part is accepted
-  pub whole : Parts g s → accepted g s ≡ true
-  unfolding accepted
+  pub whole : Parts g s → stateOk g s ≡ true
+  unfolding stateOk
   whole p = rw (p .settings, p .windows, p .base, p .selected, p .hold, p .half, p .spans)
 
 -- ---- cursors and windows

@@ -30,32 +30,32 @@ right-length n l e = eqb-true (length l) n (not-false (eqb (length l) n) e)
 
 module _ (g : Module) where
   -- a feed that is not refused
-  pub feed-given : (font : List ℕ) (s : State) (m : List ℕ) → isAccepted (feedRefusal g font s m) ≡ true
-      → (length m ≡ memoryLength g) × (length font ≡ fontLength g) × (accepted g s ≡ true)
+  pub feed-given : (font : List ℕ) (s : State) (ds m : List ℕ) → isAccepted (feedRefusal g font s ds m) ≡ true
+      → (length m ≡ memoryLength g) × (length font ≡ fontLength g) × (accepted g s ds ≡ true)
   unfolding feedRefusal isAccepted refusalNumber
-  feed-given font s m e =
+  feed-given font s ds m e =
       let a = passed (isNot (memoryLength g) m) MemoryLength _ refl e in
       let b = passed (isNot (fontLength g) font) FontLength _ refl (a .1) in
-      let c = passed (not (accepted g s)) BrokenState Accepted refl (b .1) in
-      (right-length (memoryLength g) m (a .0), right-length (fontLength g) font (b .0), not-false (accepted g s) (c .0))
+      let c = passed (not (accepted g s ds)) BrokenState Accepted refl (b .1) in
+      (right-length (memoryLength g) m (a .0), right-length (fontLength g) font (b .0), not-false (accepted g s ds) (c .0))
 
   -- and back
-  pub feed-taken : (font : List ℕ) (s : State) (m : List ℕ) → length m ≡ memoryLength g → length font ≡ fontLength g
-      → accepted g s ≡ true → feedRefusal g font s m ≡ Accepted
+  pub feed-taken : (font : List ℕ) (s : State) (ds m : List ℕ) → length m ≡ memoryLength g → length font ≡ fontLength g
+      → accepted g s ds ≡ true → feedRefusal g font s ds m ≡ Accepted
   unfolding feedRefusal
-  feed-taken font s m l f h = rw (eq-eqb (length m) (memoryLength g) l, eq-eqb (length font) (fontLength g) f, h)
+  feed-taken font s ds m l f h = rw (eq-eqb (length m) (memoryLength g) l, eq-eqb (length font) (fontLength g) f, h)
 
   -- a hold that is not refused
-  pub hold-given : (s : State) (k : ℕ) → isAccepted (holdRefusal g s k) ≡ true
-      → (accepted g s ≡ true) × (isHeld (s .hold) ≡ false) × (between 1 4 k ≡ true)
+  pub hold-given : (s : State) (ds : List ℕ) (k : ℕ) → isAccepted (holdRefusal g s ds k) ≡ true
+      → (accepted g s ds ≡ true) × (isHeld (s .hold) ≡ false) × (between 1 4 k ≡ true)
       × (isDefined (windowAt (s .windows) k) ≡ true)
   unfolding holdRefusal isAccepted refusalNumber
-  hold-given s k e =
-      let a = passed (not (accepted g s)) BrokenState _ refl e in
+  hold-given s ds k e =
+      let a = passed (not (accepted g s ds)) BrokenState _ refl e in
       let b = passed (isHeld (s .hold)) HeldAlready _ refl (a .1) in
       let c = passed (not (between 1 4 k)) NoSuchWindow _ refl (b .1) in
       let d = passed (not (isDefined (windowAt (s .windows) k))) UndefinedWindow Accepted refl (c .1) in (
-        not-false (accepted g s) (a .0),
+        not-false (accepted g s ds) (a .0),
         b .0,
         not-false (between 1 4 k) (c .0),
         not-false (isDefined (windowAt (s .windows) k)) (d .0),

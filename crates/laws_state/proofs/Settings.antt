@@ -8,7 +8,7 @@ use lib.Dec.{eqb}
 use Rattle.paper.specs.declared.Module.{Module}
 use Rattle.paper.specs.declared.Settings.{Settings}
 use Rattle.paper.specs.declared.Key.{Key}
-use Rattle.paper.specs.declared.Key.the-variants.{Charset, Codes, Caret, Brightness, Reverse, Speed, Mixing, Width, Write}
+use Rattle.paper.specs.declared.Key.the-variants.{Charset, Codes, Caret, Brightness, Reverse, Speed, Mixing, Width, Write, Switch}
 use Rattle.paper.specs.Reading.{between}
 use Rattle.paper.specs.Settings.{initialStyle, initialSettings, inDomain, inEnlargement, withSetting, enlarged}
 use Rattle.paper.specs.Bounds.{settingsOk}
@@ -25,6 +25,7 @@ pub record Domains (g : Module) (v : Settings) : Type 0 where
   pub speed : inDomain g Speed (v .speed) ≡ true
   pub width : inDomain g Width (v .width) ≡ true
   pub write : inDomain g Write (v .write) ≡ true
+  pub switch : inDomain g Switch (v .switch) ≡ true
   pub reverse : inDomain g Reverse (v .style .reverse) ≡ true
   pub mixing : inDomain g Mixing (v .style .mixing) ≡ true
   pub enlargement : inEnlargement (v .style .across) (v .style .down) ≡ true
@@ -40,7 +41,8 @@ domains g v h =
     let speed = both-of (inDomain g Speed (v .speed)) _ (brightness .1) in
     let width = both-of (inDomain g Width (v .width)) _ (speed .1) in
     let write = both-of (inDomain g Write (v .write)) _ (width .1) in
-    let reverse = both-of (inDomain g Reverse (v .style .reverse)) _ (write .1) in
+    let switch = both-of (inDomain g Switch (v .switch)) _ (write .1) in
+    let reverse = both-of (inDomain g Reverse (v .style .reverse)) _ (switch .1) in
     let mixing = both-of (inDomain g Mixing (v .style .mixing)) _ (reverse .1) in
     record {
       charset = charset .0;
@@ -50,44 +52,47 @@ domains g v h =
       speed = speed .0;
       width = width .0;
       write = write .0;
+      switch = switch .0;
       reverse = reverse .0;
       mixing = mixing .0;
       enlargement = mixing .1;
     }
 
--- ten tests that pass
-ten : {a b c d e f g h i j : Bool} → a ≡ true → b ≡ true → c ≡ true → d ≡ true → e ≡ true → f ≡ true → g ≡ true → h ≡ true
-    → i ≡ true → j ≡ true → (a && (b && (c && (d && (e && (f && (g && (h && (i && j))))))))) ≡ true
-ten a b c d e f g h i j = rw (a, b, c, d, e, f, g, h, i, j)
+-- eleven tests that pass
+eleven : {a b c d e f g h i j k : Bool} → a ≡ true → b ≡ true → c ≡ true → d ≡ true → e ≡ true → f ≡ true → g ≡ true → h ≡ true
+    → i ≡ true → j ≡ true → k ≡ true → (a && (b && (c && (d && (e && (f && (g && (h && (i && (j && k)))))))))) ≡ true
+eleven a b c d e f g h i j k = rw (a, b, c, d, e, f, g, h, i, j, k)
 
 module _ (g : Module) (v : Settings) (p : Domains g v) where
   -- one setting changed, to a value of its domain, by its key
   set-by : (key : Key) (n : ℕ) → inDomain g key n ≡ true → settingsOk g (withSetting v key n) ≡ true
   unfolding settingsOk withSetting
   set-by Charset n h =
-      ten h (p .codes) (p .caret) (p .brightness) (p .speed) (p .width) (p .write) (p .reverse) (p .mixing) (p .enlargement)
+      eleven h (p .codes) (p .caret) (p .brightness) (p .speed) (p .width) (p .write) (p .switch) (p .reverse) (p .mixing) (p .enlargement)
   set-by Codes n h =
-      ten (p .charset) h (p .caret) (p .brightness) (p .speed) (p .width) (p .write) (p .reverse) (p .mixing) (p .enlargement)
+      eleven (p .charset) h (p .caret) (p .brightness) (p .speed) (p .width) (p .write) (p .switch) (p .reverse) (p .mixing) (p .enlargement)
   set-by Caret n h =
-      ten (p .charset) (p .codes) h (p .brightness) (p .speed) (p .width) (p .write) (p .reverse) (p .mixing) (p .enlargement)
+      eleven (p .charset) (p .codes) h (p .brightness) (p .speed) (p .width) (p .write) (p .switch) (p .reverse) (p .mixing) (p .enlargement)
   set-by Brightness n h =
-      ten (p .charset) (p .codes) (p .caret) h (p .speed) (p .width) (p .write) (p .reverse) (p .mixing) (p .enlargement)
+      eleven (p .charset) (p .codes) (p .caret) h (p .speed) (p .width) (p .write) (p .switch) (p .reverse) (p .mixing) (p .enlargement)
   set-by Reverse n h =
-      ten (p .charset) (p .codes) (p .caret) (p .brightness) (p .speed) (p .width) (p .write) h (p .mixing) (p .enlargement)
+      eleven (p .charset) (p .codes) (p .caret) (p .brightness) (p .speed) (p .width) (p .write) (p .switch) h (p .mixing) (p .enlargement)
   set-by Speed n h =
-      ten (p .charset) (p .codes) (p .caret) (p .brightness) h (p .width) (p .write) (p .reverse) (p .mixing) (p .enlargement)
+      eleven (p .charset) (p .codes) (p .caret) (p .brightness) h (p .width) (p .write) (p .switch) (p .reverse) (p .mixing) (p .enlargement)
   set-by Mixing n h =
-      ten (p .charset) (p .codes) (p .caret) (p .brightness) (p .speed) (p .width) (p .write) (p .reverse) h (p .enlargement)
+      eleven (p .charset) (p .codes) (p .caret) (p .brightness) (p .speed) (p .width) (p .write) (p .switch) (p .reverse) h (p .enlargement)
   set-by Width n h =
-      ten (p .charset) (p .codes) (p .caret) (p .brightness) (p .speed) h (p .write) (p .reverse) (p .mixing) (p .enlargement)
+      eleven (p .charset) (p .codes) (p .caret) (p .brightness) (p .speed) h (p .write) (p .switch) (p .reverse) (p .mixing) (p .enlargement)
   set-by Write n h =
-      ten (p .charset) (p .codes) (p .caret) (p .brightness) (p .speed) (p .width) h (p .reverse) (p .mixing) (p .enlargement)
+      eleven (p .charset) (p .codes) (p .caret) (p .brightness) (p .speed) (p .width) h (p .switch) (p .reverse) (p .mixing) (p .enlargement)
+  set-by Switch n h =
+      eleven (p .charset) (p .codes) (p .caret) (p .brightness) (p .speed) (p .width) (p .write) h (p .reverse) (p .mixing) (p .enlargement)
 
   -- the enlargement changed
   enlarge-by : (x y : ℕ) → inEnlargement x y ≡ true → settingsOk g (enlarged v x y) ≡ true
   unfolding settingsOk
   enlarge-by x y h =
-      ten (p .charset) (p .codes) (p .caret) (p .brightness) (p .speed) (p .width) (p .write) (p .reverse) (p .mixing) h
+      eleven (p .charset) (p .codes) (p .caret) (p .brightness) (p .speed) (p .width) (p .write) (p .switch) (p .reverse) (p .mixing) h
 
 -- a frame adds two columns at most
 blanks-most : (f t : Bool) → cond f (cond t 1 2) 0 ≤ 2
@@ -102,7 +107,7 @@ width-bounds c n some most l h = omega (arith, mul-le-mul some l, mul-le-mul mos
 -- the initial settings
 pub initial-ok : (g : Module) → Usable g → settingsOk g (initialSettings g) ≡ true
 unfolding settingsOk initialSettings initialStyle inDomain inEnlargement
-initial-ok g u = ten refl refl refl (u .bright) refl refl refl refl refl refl
+initial-ok g u = eleven refl refl refl (u .bright) refl refl refl refl refl refl refl
 
 module _ (g : Module) (v : Settings) (o : settingsOk g v ≡ true) where
   -- one setting changed, to a value of its domain

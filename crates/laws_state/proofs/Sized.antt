@@ -13,13 +13,14 @@ use Rattle.paper.specs.declared.Hold.the-variants.{Free, Held}
 use Rattle.paper.specs.declared.Refusal.the-variants.{Accepted}
 use Rattle.paper.specs.declared.Answer.{Answer}
 use Rattle.paper.specs.declared.Command.{Command}
-use Rattle.paper.specs.declared.Command.the-variants.{Character, Back, Tab, LineFeed, Home, Clear, Return, Select, Initialise, Mode, Set, Enlarge, CursorSet, Define, Cancel, Uncarried}
+use Rattle.paper.specs.declared.Command.the-variants.{Character, Back, Tab, LineFeed, Home, Clear, Return, Select, Initialise, Mode, Set, Enlarge, CursorSet, Define, Cancel, Uncarried, Erase}
 use Rattle.paper.specs.declared.State.{State}
+use Rattle.paper.specs.Downloads.{Faces}
 use Rattle.paper.specs.Strokes.{noSpan}
 use Rattle.paper.specs.Settings.{initialState, withHalf, withSelected, noWindow, windowAt, defined, cancelled, withCursor, atCursor, inMode}
 use Rattle.paper.specs.Carry.{Meaning, carriedOut, byteMeans}
 use Rattle.paper.specs.Cells.{eraseStroke}
-use Rattle.paper.specs.Calls.{isAccepted, startRefusal, Starting, startCall, feedRefusal, Feeding, next, run, fedNothing, feedCall, holdRefusal, heldBy, holdCall, releaseRefusal, putBack, released, releaseCall, refreshRefusal, Refreshing, emptied, refreshCall, settled}
+use Rattle.paper.specs.Calls.{isAccepted, startRefusal, Starting, startCall, feedRefusal, Feeding, facesNow, next, run, fedNothing, feedCall, holdRefusal, heldBy, holdCall, releaseRefusal, putBack, released, releaseCall, refreshRefusal, Refreshing, emptied, refreshCall, settled}
 use Rattle.laws_state.specs.Sized.{Sized}
 use Rattle.laws_state.proofs.Tests.{by-cond}
 use Rattle.laws_memory.proofs.Spans.{marks-length}
@@ -53,7 +54,7 @@ module _ (s : State) where
       by-cond (Alike s) (eqb (s .selected) k) (λ _. set-alike k 0 noWindow) (λ _. set-alike k (s .selected) noWindow)
 
   -- every command
-  carried-alike : (g : Module) (font : List ℕ) (c : Command) → Alike s (carriedOut g font s c .state)
+  carried-alike : (g : Module) (font : Faces) (c : Command) → Alike s (carriedOut g font s c .state)
   unfolding carriedOut inMode initialState
   carried-alike g font (Character b) = at-alike _
   carried-alike g font Back = at-alike _
@@ -71,8 +72,9 @@ module _ (s : State) where
   carried-alike g font (Define k left top width height) = set-alike k (s .selected) _
   carried-alike g font (Cancel k) = cancelled-alike k
   carried-alike g font Uncarried = alike s s refl refl
+  carried-alike g font (Erase k code) = alike s s refl refl
 
-module _ (g : Module) (font : List ℕ) where
+module _ (g : Module) (font : Faces) where
   -- every byte
   byte-alike : (s : State) (b : ℕ) → Alike (withHalf s Nothing) (byteMeans g font s b .state)
   byte-alike s b =
@@ -93,11 +95,11 @@ module _ (g : Module) (font : List ℕ) where
         spans = marks-length (t .state .spans) (t .strokes) ∙ ap length (byte-spans s b) ∙ z .spans;
       }
 
-  -- and so does a piece
-  pub run-sized : (f : Feeding) (bs : List ℕ) → Sized g (f .answer .state) → Sized g (run g font f bs .answer .state)
-  unfolding next
-  run-sized f [] z = z
-  run-sized f (b ∷ bs) z = run-sized (next g font f b) bs (byte-sized (f .answer .state) b z)
+-- and so does a piece
+pub run-sized : (g : Module) (font : List ℕ) (f : Feeding) (bs : List ℕ) → Sized g (f .answer .state) → Sized g (run g font f bs .answer .state)
+unfolding next
+run-sized g font f [] z = z
+run-sized g font f (b ∷ bs) z = run-sized g font (next g font f b) bs (byte-sized g (facesNow font f) (f .answer .state) b z)
 
 -- ---- the calls, refused or not
 
@@ -108,28 +110,28 @@ module _ (g : Module) where
   initial-sized = record { windows = refl; spans = length-replicate (g .rows) noSpan }
 
   -- start
-  pub start-sized : (m : List ℕ) → Sized g (startCall g m .answer .state)
+  pub start-sized : (m ds : List ℕ) → Sized g (startCall g m ds .answer .state)
   unfolding startCall
-  start-sized m =
+  start-sized m ds =
       let z = initial-sized in
       by-cond (λ (q : Starting). Sized g (q .answer .state)) (isAccepted (startRefusal g m))
       (λ _.
       record { windows = z .windows; spans = marks-length (initialState g .spans) (eraseStroke g ∷ []) ∙ z .spans })
       (λ _. z)
 
-  module _ (s : State) (z : Sized g s) where
+  module _ (s : State) (ds : List ℕ) (z : Sized g s) where
     -- feed
-    pub feed-sized : (font m piece : List ℕ) → Sized g (feedCall g font s m piece .answer .state)
+    pub feed-sized : (font m piece : List ℕ) → Sized g (feedCall g font s ds m piece .answer .state)
     unfolding feedCall
     feed-sized font m piece =
-        by-cond (λ (q : Feeding). Sized g (q .answer .state)) (isAccepted (feedRefusal g font s m))
-        (λ _. run-sized g font (fedNothing Accepted s m) piece z) (λ _. z)
+        by-cond (λ (q : Feeding). Sized g (q .answer .state)) (isAccepted (feedRefusal g font s ds m))
+        (λ _. run-sized g font (fedNothing Accepted s ds m) piece z) (λ _. z)
 
     -- hold
-    pub hold-sized : (k : ℕ) → Sized g (holdCall g s k .state)
+    pub hold-sized : (k : ℕ) → Sized g (holdCall g s ds k .state)
     unfolding holdCall heldBy
     hold-sized k =
-        by-cond (λ (q : Answer). Sized g (q .state)) (isAccepted (holdRefusal g s k))
+        by-cond (λ (q : Answer). Sized g (q .state)) (isAccepted (holdRefusal g s ds k))
         (λ _. record { windows = z .windows; spans = z .spans }) (λ _. z)
 
     -- what release puts back
@@ -138,14 +140,14 @@ module _ (g : Module) where
     back-sized (Held k back v) = record { windows = z .windows; spans = z .spans }
 
     -- release
-    pub release-sized : Sized g (releaseCall g s .state)
+    pub release-sized : Sized g (releaseCall g s ds .state)
     unfolding releaseCall released
     release-sized =
-        by-cond (λ (q : Answer). Sized g (q .state)) (isAccepted (releaseRefusal g s)) (λ _. back-sized (s .hold)) (λ _. z)
+        by-cond (λ (q : Answer). Sized g (q .state)) (isAccepted (releaseRefusal g s ds)) (λ _. back-sized (s .hold)) (λ _. z)
 
     -- refresh
-    pub refresh-sized : (m glass : List ℕ) → Sized g (refreshCall g s m glass .answer .state)
+    pub refresh-sized : (m glass : List ℕ) → Sized g (refreshCall g s ds m glass .answer .state)
     unfolding refreshCall emptied
     refresh-sized m glass =
-        by-cond (λ (q : Refreshing). Sized g (q .answer .state)) (isAccepted (refreshRefusal g s m glass))
+        by-cond (λ (q : Refreshing). Sized g (q .answer .state)) (isAccepted (refreshRefusal g s ds m glass))
         (λ _. record { windows = z .windows; spans = length-replicate (g .rows) noSpan }) (λ _. z)

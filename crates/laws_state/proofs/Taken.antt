@@ -11,13 +11,14 @@ use borrow.Author.Tests.{le-leb, lt-leb}
 use Rattle.paper.specs.declared.Module.{Module}
 use Rattle.paper.specs.declared.Style.{Style}
 use Rattle.paper.specs.declared.View.{View}
+use Rattle.paper.specs.Downloads.{Faces}
 use Rattle.laws_state.specs.Runs.{Sheet, writtenOn, written, charactersOf, Image, storedOn, stored, imageBytesOf}
 
 -- a piece from a place on
 pub from-here : (bs : List ℕ) (i : ℕ) → i < length bs → drop i bs ≡ getD bs i 0 ∷ drop (i + 1) bs
 from-here bs i l = rw (add-one i) (drop-cons bs i 0 l)
 
-module _ (g : Module) (font : List ℕ) (w : ℕ) (y : Style) (bs : List ℕ) (i : ℕ) (h : Sheet) where
+module _ (g : Module) (font : Faces) (w : ℕ) (y : Style) (bs : List ℕ) (i : ℕ) (h : Sheet) where
   -- a character is drawn
   pub characters-more : {h′ : Sheet} → i < length bs → 0x20 ≤ getD bs i 0 → h′ ≡ writtenOn g font w y h (getD bs i 0)
       → charactersOf g font w y h′ (drop (i + 1) bs) ≡ charactersOf g font w y h (drop i bs)

@@ -11,7 +11,7 @@ use Rattle.paper.specs.declared.View.{View}
 use Rattle.paper.specs.declared.State.{State}
 use Rattle.paper.specs.Panel.{panel}
 use Rattle.paper.specs.Settings.{inDomain, windowAt, cursor, baseView, windowView, viewOf, cursorIn, withView}
-use Rattle.paper.specs.Bounds.{cursorOk, accepted}
+use Rattle.paper.specs.Bounds.{cursorOk, stateOk}
 use Rattle.paper.specs.Cells.{tooLarge}
 use Rattle.paper.specs.Moves.{Moved}
 use Rattle.paper.specs.Carry.{widthNow, heightNow, exceeds}
@@ -61,7 +61,7 @@ module _ (g : Module) (u : Usable g) where
       by-cond (λ (q : View). q .mode ≡ k .mode) (eqb write 1) (λ _. refl)
       (λ _. by-cond (λ (q : View). q .mode ≡ k .mode) (ltb (k .x) (g .visible)) (λ _. refl) (λ _. refl))
 
-  module _ (s : State) (h : accepted g s ≡ true) where
+  module _ (s : State) (h : stateOk g s ≡ true) where
     -- the range lies in memory, and the cursor in the range
     pub view-place : InMemory g (viewOf g s)
     unfolding viewOf
@@ -93,7 +93,7 @@ module _ (g : Module) (u : Usable g) where
         omega arith
 
     -- where a move of the range ends, the state is accepted
-    pub view-kept : (t : Moved) → Kept (viewOf g s) t → accepted g (withView s (t .view)) ≡ true
+    pub view-kept : (t : Moved) → Kept (viewOf g s) t → stateOk g (withView s (t .view)) ≡ true
     unfolding cursorIn
     view-kept t k =
         let v = t .view in

@@ -14,9 +14,9 @@ use Rattle.paper.specs.Strokes.{rectAt, inRect}
 use Rattle.paper.specs.Settings.{windowAt}
 use Rattle.paper.specs.Bounds.{accepted}
 
--- an accepted state in which window k is held, `back` saved as selected and `v` as settings
-pub record Holding (g : Module) (k back : ℕ) (v : Settings) (s : State) : Type 0 where
-  pub accepts : accepted g s ≡ true
+-- an accepted state, with its downloads, in which window k is held, `back` saved as selected and `v` as settings
+pub record Holding (g : Module) (k back : ℕ) (v : Settings) (s : State) (ds : List ℕ) : Type 0 where
+  pub accepts : accepted g s ds ≡ true
   pub held : s .hold ≡ Held k back v
 
 -- state r after a guest's bytes in state s: the hold, the selection, the base cursor and every other window are as they were,

@@ -6,7 +6,7 @@ use Rattle.paper.specs.declared.State.{State}
 use Rattle.paper.specs.Settings.{selectable}
 use Rattle.paper.specs.Bounds.{settingsOk, cursorOk, windowsOk, holdOk, spansOk, halfOk}
 
--- the conjuncts of `accepted`
+-- the conjuncts of `stateOk`
 pub record Parts (g : Module) (s : State) : Type 0 where
   pub settings : settingsOk g (s .settings) ≡ true
   pub windows : windowsOk g (s .windows) ≡ true

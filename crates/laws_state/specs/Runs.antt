@@ -13,6 +13,7 @@ use Rattle.paper.specs.declared.Half.{Half}
 use Rattle.paper.specs.declared.Half.the-variants.{Nothing, ImageData}
 use Rattle.paper.specs.declared.Outcome.{Outcome}
 use Rattle.paper.specs.declared.Outcome.the-variants.{Unfinished, Carried}
+use Rattle.paper.specs.Downloads.{Faces}
 use Rattle.paper.specs.Strokes.{applyAll, markAll}
 use Rattle.paper.specs.Settings.{withHalf, withSpans, withView}
 use Rattle.paper.specs.Moves.{Moved, characterOf}
@@ -41,8 +42,8 @@ sheet v ps m = record { view = v; spans = ps; mem = m }
 abbrev pub movedOn : Module → Sheet → Moved → Sheet
 movedOn g h t = sheet (t .view) (markAll (h .spans) (t .strokes)) (applyAll g (h .mem) (t .strokes))
 
--- after a character
-abbrev pub writtenOn : Module → List ℕ → ℕ → Style → Sheet → ℕ → Sheet
+-- after a character, drawn from the faces in force
+abbrev pub writtenOn : Module → Faces → ℕ → Style → Sheet → ℕ → Sheet
 writtenOn g font w y h b = movedOn g h (characterOf g font w y b (h .view))
 
 pub record Written : Type 0 where
@@ -53,7 +54,7 @@ abbrev pub written : Sheet → List ℕ → Written
 written h rest = record { on = h; rest = rest }
 
 -- the characters that bytes begin with, and the bytes from the first that is none
-abbrev pub charactersOf : Module → List ℕ → ℕ → Style → Sheet → List ℕ → Written
+abbrev pub charactersOf : Module → Faces → ℕ → Style → Sheet → List ℕ → Written
 charactersOf g font w y h [] = written h []
 charactersOf g font w y h (b ∷ bs) =
     cond (leb 0x20 b) (charactersOf g font w y (writtenOn g font w y h b) bs) (written h (b ∷ bs))

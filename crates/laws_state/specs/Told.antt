@@ -6,13 +6,13 @@ use Rattle.paper.specs.declared.Fed.{Fed}
 use Rattle.paper.specs.declared.Refreshed.{Refreshed}
 use Rattle.paper.specs.Calls.{Starting, Feeding, Refreshing}
 
--- start: the answer and the memory
-abbrev pub started : Answer → List ℕ → Starting
-started a m = record { answer = a; mem = m }
+-- start: the answer, the memory and the downloads
+abbrev pub started : Answer → List ℕ → List ℕ → Starting
+started a m ds = record { answer = a; mem = m; store = ds }
 
--- feed: the answer and the memory
-abbrev pub fed : Fed → List ℕ → Feeding
-fed a m = record { answer = a; mem = m }
+-- feed: the answer, the memory and the downloads
+abbrev pub fed : Fed → List ℕ → List ℕ → Feeding
+fed a m ds = record { answer = a; mem = m; store = ds }
 
 -- refresh: the answer and the glass
 abbrev pub refreshed : Refreshed → List ℕ → Refreshing

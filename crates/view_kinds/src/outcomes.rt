@@ -12,6 +12,8 @@ pub fn outcome_words(n: u32) -> [u8; 18] {
         15 => *b"a window is held  ",
         16 => *b"cell too large    ",
         17 => *b"window not defined",
+        18 => *b"a code was dropped",
+        19 => *b"code not stored   ",
         _ => *b"no outcome        ",
     }
 }

@@ -16,18 +16,18 @@ use Rattle.view_show.specs.Shown.{Shows, fedFresh, shownFresh}
 abbrev counts : Fed → Refreshed → Bool → Counts
 counts f r half = record { carried = f .carried; answered = f .answered; moved = r .moved; half = half }
 
-pub plays : (font m stream glass : List ℕ) {m₁ m₂ glass′ : List ℕ} {a : Answer} {f : Fed} {r : Refreshed} (half : Bool)
-    → started a m₁ ≡ startCall panel m
-    → fed f m₂ ≡ feedCall panel font (a .state) m₁ stream
-    → refreshed r glass′ ≡ refreshCall panel (f .state) m₂ glass
-    → Shows (fedFresh panel font m stream) (shownFresh panel font m stream glass) (counts f r half) glass′
+pub plays : (font m ds stream glass : List ℕ) {m₁ m₂ ds₁ ds₂ glass′ : List ℕ} {a : Answer} {f : Fed} {r : Refreshed} (half : Bool)
+    → started a m₁ ds₁ ≡ startCall panel m ds
+    → fed f m₂ ds₂ ≡ feedCall panel font (a .state) ds₁ m₁ stream
+    → refreshed r glass′ ≡ refreshCall panel (f .state) ds₂ m₂ glass
+    → Shows (fedFresh panel font m ds stream) (shownFresh panel font m ds stream glass) (counts f r half) glass′
 unfolding fedFresh shownFresh
-plays font m stream glass {m₂ = m₂} {glass′ = glass′} {f = f} {r = r} half begun taken brought =
-    let fed-is : fed f m₂ ≡ fedFresh panel font m stream =
-    taken ∙ ap (λ (x : Starting). feedCall panel font (x .answer .state) (x .mem) stream) begun
+plays font m ds stream glass {m₂ = m₂} {ds₂ = ds₂} {glass′ = glass′} {f = f} {r = r} half begun taken brought =
+    let fed-is : fed f m₂ ds₂ ≡ fedFresh panel font m ds stream =
+    taken ∙ ap (λ (x : Starting). feedCall panel font (x .answer .state) (x .store) (x .mem) stream) begun
     in
-    let shown-is : refreshed r glass′ ≡ shownFresh panel font m stream glass =
-    brought ∙ ap (λ (x : Feeding). refreshCall panel (x .answer .state) (x .mem) glass) fed-is
+    let shown-is : refreshed r glass′ ≡ shownFresh panel font m ds stream glass =
+    brought ∙ ap (λ (x : Feeding). refreshCall panel (x .answer .state) (x .store) (x .mem) glass) fed-is
     in
     record {
       carried = ap (λ (x : Feeding). x .answer .carried) fed-is;

@@ -22,14 +22,14 @@ fn tell(stream: &[u8], from: usize, next: usize, o: Outcome, s: State) -> usize 
 }
 
 // Feeds the stream.
-fn trace(font: &[u8], stream: &[u8], mem: &mut [u8]) {
-    let a = panel::start(mem);
+fn trace(font: &[u8], stream: &[u8], mem: &mut [u8], store: &mut [u8]) {
+    let a = panel::start(mem, store);
     let mut state = a.state;
     let mut from = 0;
     let mut i = 0;
     while i < stream.len() {
         let next = i + 1;
-        let f = panel::feed(mem, font, &stream[i..next], state);
+        let f = panel::feed(mem, store, font, &stream[i..next], state);
         let o = f.outcome;
         state = f.state;
         from = tell(stream, from, next, o, state);
@@ -43,12 +43,13 @@ fn trace(font: &[u8], stream: &[u8], mem: &mut [u8]) {
 fn main() {
     let mut font = [0u8; 1120];
     let mut mem = [0u8; 1024];
+    let mut store = [0u8; 144];
     let mut room = view_io::room();
     if !view_io::read_font(&mut font) {
         return;
     }
     let input = view_io::read_rest(&mut room);
     if input.ok {
-        trace(&font, view_text::part(&room, 0, input.bytes), &mut mem);
+        trace(&font, view_text::part(&room, 0, input.bytes), &mut mem, &mut store);
     }
 }

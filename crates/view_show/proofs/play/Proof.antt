@@ -9,7 +9,7 @@ returns c =
     let refreshing = c .before .before .before in
     let feeding = refreshing .before .before .before .before .before .before in
     let starting = feeding .before .before .before .before .before in
-    plays _ _ _ _ _ (starting .start .ensures) (feeding .feed .ensures) (refreshing .refresh .ensures)
+    plays _ _ _ _ _ _ (starting .start .ensures) (feeding .feed .ensures) (refreshing .refresh .ensures)
 
 pub play-spec : {M : Type 1} → statement M
 play-spec =

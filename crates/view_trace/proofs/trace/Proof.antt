@@ -7,10 +7,10 @@ use Rattle.view_trace.proofs.trace.Statement.{statement}
 use Rattle.view_trace.proofs.trace.Tie as tie
 
 abbrev Inv-loop : tie.InvT-loop
-Inv-loop font stream mem₀ state₀ from₀ i₀ mem state from i = (length mem ≡ length mem₀) × (i ≤ length stream)
+Inv-loop font stream mem₀ store₀ state₀ from₀ i₀ mem store state from i = (length mem ≡ length mem₀) × (length store ≡ length store₀) × (i ≤ length stream)
 
 abbrev μ-loop : tie.MeasureT-loop
-μ-loop font stream mem₀ state₀ from₀ i₀ mem state from i = length stream - i
+μ-loop font stream mem₀ store₀ state₀ from₀ i₀ mem store state from i = length stream - i
 
 pub trace-spec : {M : Type 1} → statement M
 trace-spec =
