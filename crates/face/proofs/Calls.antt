@@ -1,12 +1,13 @@
 -- A call's steps (the record read, the call for the module, its number, the record written) give what the definition of the call says.
 -- A feed writes the downloads where they stand, and only then the state; a refresh writes the spans alone. Assumes nothing.
-use Prim.Native.Nat.{ℕ}
+use Prim.Native.Nat.{ℕ, _-_}
 use mathlib.Core.Path.{_≡_, refl, sym, ap, ap₂, subst, _∙_}
 use mathlib.Core.Bool.{Bool, true, false, cond, not}
 use mathlib.Core.List.{List, _++_}
 use lib.ListN.{length, take, take-append-drop}
 use lib.Dec.{eqb}
 use borrow.Author.Tests.{eq-eqb, ne-eqb, not-false}
+use borrow.Rule.Slice.PartMut.{putMid}
 use Rattle.paper.specs.declared.Answer.{Answer}
 use Rattle.paper.specs.declared.Fed.{Fed}
 use Rattle.paper.specs.declared.Module.{Module}
@@ -27,7 +28,7 @@ use Rattle.record_write.proofs.Laid.{spans-into}
 use Rattle.record_read.specs.Record.{stateIn, storeIn}
 use Rattle.record_read.proofs.Back.{accepted-record, state-part}
 use Rattle.face.specs.Face.{wrongLength, recordAfter, stateAfter, spansAfter, starting, startingC, startC, fed, feeding, feedingC, feedC, calling, callingC, holdC, releaseC, moved, refreshing, refreshingC, refreshC}
-use Rattle.face.proofs.Parts.{store-in}
+use Rattle.face.proofs.Parts.{store-put, store-in}
 use Rattle.face.proofs.Left.{Left, feed-store-left}
 
 -- ---- a refresh changes the spans alone
@@ -72,15 +73,19 @@ module _ (g : Module) (l m glass : List ℕ) where
 
 -- ---- a feed writes the downloads in their place
 
+-- the record with these in the downloads' place
+abbrev pub withStore : List ℕ → List ℕ → List ℕ
+withStore l ds = putMid stateLength (length l - stateLength) l ds
+
 -- a call with refusal r gave these downloads, and the record has them; where it was refused they are those that were there
 store-kept : (l ds : List ℕ) (r : Refusal) (s : State) → length l ≡ recordLength → Left (storeIn l) r ds
-    → stateAfter (refusalNumber r) s (take stateLength l ++ ds) ≡ recordAfter (refusalNumber r) s ds l
+    → stateAfter (refusalNumber r) s (withStore l ds) ≡ recordAfter (refusalNumber r) s ds l
 unfolding recordAfter isAccepted
 store-kept l ds r s h left = go (eqb (refusalNumber r) 0) left where
   go : (b : Bool) → (b ≡ false → ds ≡ storeIn l)
-      → cond b (recordOf s (storeIn (take stateLength l ++ ds))) (take stateLength l ++ ds) ≡ cond b (recordOf s ds) l
+      → cond b (recordOf s (storeIn (withStore l ds))) (withStore l ds) ≡ cond b (recordOf s ds) l
   go true k = ap (recordOf s) (store-in l h ds)
-  go false k = ap (λ (x : List ℕ). take stateLength l ++ x) (k refl) ∙ take-append-drop stateLength l
+  go false k = store-put l h ds ∙ ap (λ (x : List ℕ). take stateLength l ++ x) (k refl) ∙ take-append-drop stateLength l
 
 module _ (g : Module) (l : List ℕ) where
   -- ---- a record of another length
@@ -116,7 +121,7 @@ module _ (g : Module) (l : List ℕ) where
 
     module _ (s : State) (r : s ≡ stateIn l) where
       pub feed-told : (m font piece m′ ds′ : List ℕ) (a : Fed) (o : ℕ) → told.fed a m′ ds′ ≡ feedCall g font s ds m piece
-          → n ≡ refusalNumber (a .refusal) → l′ ≡ stateAfter n (a .state) (take stateLength l ++ ds′) → o ≡ outcomeNumber (a .outcome)
+          → n ≡ refusalNumber (a .refusal) → l′ ≡ stateAfter n (a .state) (withStore l ds′) → o ≡ outcomeNumber (a .outcome)
           → feeding (fed n o (a .carried) (a .answered)) l′ m′ ≡ feedC g l m font piece
       unfolding feedC
       feed-told m font piece m′ ds′ a o call f w k =
