@@ -1,0 +1,3 @@
+-- Laws over which the functions' proofs stand.
+pub mod Places
+pub mod Halves

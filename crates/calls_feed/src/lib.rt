@@ -11,7 +11,6 @@ ghost use mathlib.Core.Path.{_≡_};
 ghost use mathlib.Core.List.{[]};
 ghost use lib.ListN.{length};
 ghost use Rattle.paper.specs.Panel.{fontLength};
-ghost use Rattle.paper.specs.Downloads.{storeLength};
 ghost use Rattle.paper.specs.Calls.{run, fedNothing, feedCall};
 ghost use Rattle.laws_state.specs.Room.{Usable};
 ghost use Rattle.laws_state.specs.Told.{fed};
@@ -67,7 +66,7 @@ fn apart(s: State) -> State
 
 // The whole piece.
 fn feed_all(g: Module, mem: &mut [u8], store: &mut [u8], font: &[u8], piece: &[u8], s: State) -> Fed
-    requires { ⌜ Ready g s (now mem) × ((length (now font) ≡ fontLength g) × (length (now store) ≡ storeLength)) ⌝ }
+    requires { ⌜ Ready g s (now mem) × (length (now font) ≡ fontLength g) ⌝ }
     ensures { λ r. ⌜ fed r (now (mem .exit)) (now (store .exit))
         ≡ run g (now (font .entry)) (fedNothing Refusal.Accepted s (now (store .entry)) (now (mem .entry))) (now (piece .entry)) ⌝ }
 {

@@ -12,14 +12,14 @@ ghost use mathlib.Core.Path.{_≡_};
 ghost use mathlib.Core.Bool.{true};
 ghost use lib.ListN.{length};
 ghost use Rattle.paper.specs.Panel.{fontLength};
-ghost use Rattle.paper.specs.Downloads.{storeLength, faces};
+ghost use Rattle.paper.specs.Downloads.{faces};
 ghost use Rattle.paper.specs.Carry.{commandOf, takeOf, commandStore, takeStore};
 ghost use Rattle.laws_bytes.specs.Readings.{commandOk, readingOk};
 ghost use Rattle.carry_dots.specs.Does.{Ready, Does};
 
 // A command read whole.
 fn carry_out(g: Module, mem: &mut [u8], store: &mut [u8], font: &[u8], s: State, c: Command) -> Done
-    requires { ⌜ Ready g s (now mem) × ((length (now font) ≡ fontLength g) × ((length (now store) ≡ storeLength) × (commandOk c ≡ true))) ⌝ }
+    requires { ⌜ Ready g s (now mem) × ((length (now font) ≡ fontLength g) × (commandOk c ≡ true)) ⌝ }
     ensures { λ r. ⌜ Does g (now (mem .entry)) r (now (mem .exit)) (commandOf g (faces (now (font .entry)) (now (store .entry))) s c)
         × (now (store .exit) ≡ commandStore g (faces (now (font .entry)) (now (store .entry))) s c) ⌝ }
 {
@@ -54,7 +54,7 @@ fn carry_out(g: Module, mem: &mut [u8], store: &mut [u8], font: &[u8], s: State,
 
 // What a byte gave to the half-read command, taken.
 pub fn take(g: Module, mem: &mut [u8], store: &mut [u8], font: &[u8], s: State, r: Reading) -> Done
-    requires { ⌜ Ready g s (now mem) × ((length (now font) ≡ fontLength g) × ((length (now store) ≡ storeLength) × (readingOk g r ≡ true))) ⌝ }
+    requires { ⌜ Ready g s (now mem) × ((length (now font) ≡ fontLength g) × (readingOk g r ≡ true)) ⌝ }
     ensures { λ d. ⌜ Does g (now (mem .entry)) d (now (mem .exit)) (takeOf g (faces (now (font .entry)) (now (store .entry))) s r)
         × (now (store .exit) ≡ takeStore g (faces (now (font .entry)) (now (store .entry))) s r) ⌝ }
 {

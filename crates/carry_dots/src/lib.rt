@@ -16,7 +16,7 @@ ghost use mathlib.Core.List.{List};
 ghost use Prim.Native.Nat.{ℕ, _+_, _≤_, _<_};
 ghost use lib.ListN.{length};
 ghost use Rattle.paper.specs.Panel.{fontLength};
-ghost use Rattle.paper.specs.Downloads.{storeLength, Faces, faces};
+ghost use Rattle.paper.specs.Downloads.{Faces, faces};
 ghost use Rattle.paper.specs.Settings.{withView, withSpans, viewOf};
 ghost use Rattle.paper.specs.Carry.{isHeld, commandOf, commandStore};
 ghost use Rattle.moves.specs.Does.{spot};
@@ -48,7 +48,7 @@ pub fn settle(s: State, p: Spot) -> State
 
 // A character, drawn from the downloads too while they are switched on.
 pub fn character(g: Module, mem: &mut [u8], font: &[u8], store: &[u8], s: State, code: u8) -> Done
-    requires { ⌜ Ready g s (now mem) × ((length (now font) ≡ fontLength g) × ((length (now store) ≡ storeLength) × (0x20 ≤ code))) ⌝ }
+    requires { ⌜ Ready g s (now mem) × ((length (now font) ≡ fontLength g) × (0x20 ≤ code)) ⌝ }
     ensures { λ r. ⌜ Does g (now (mem .entry)) r (now (mem .exit))
         (commandOf g (faces (now (font .entry)) (now (store .entry))) s (Command.Character code)) ⌝ }
 {

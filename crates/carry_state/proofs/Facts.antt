@@ -8,7 +8,7 @@ use borrow.Author.Tests.{eqb-true}
 use Rattle.paper.specs.declared.Module.{Module}
 use Rattle.paper.specs.declared.State.{State}
 use Rattle.paper.specs.declared.View.{View}
-use Rattle.paper.specs.Bounds.{accepted}
+use Rattle.paper.specs.Bounds.{stateOk}
 use Rattle.paper.specs.Settings.{viewOf}
 use Rattle.paper.specs.Cells.{tooLarge}
 use Rattle.paper.specs.Moves.{Moved}
@@ -19,7 +19,7 @@ use Rattle.laws_state.specs.Room.{Usable, InMemory, Kept}
 use Rattle.laws_state.proofs.Parts.{parts, selected-facts}
 
 -- the selected window is the base or a user window
-pub selected-small : (g : Module) (s : State) → accepted g s ≡ true → s .selected ≤ 4
+pub selected-small : (g : Module) (s : State) → stateOk g s ≡ true → s .selected ≤ 4
 selected-small g s h = go (eqb (s .selected) 0) refl where
   go : (t : Bool) → eqb (s .selected) 0 ≡ t → s .selected ≤ 4
   go true e = omega (arith, eqb-true (s .selected) 0 e)

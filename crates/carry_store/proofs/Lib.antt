@@ -1,0 +1,2 @@
+-- The laws of the downloads changed.
+pub mod Stored

@@ -1,12 +1,18 @@
--- What a command, and what a byte was read as, owe where they write no memory and may change the downloads. Assumes nothing.
+-- What a command, and what a byte was read as, owe where they write no memory and may change the downloads; and what a download that
+-- has come whole comes to, by whether a window is held. Assumes nothing.
 use mathlib.Core.Path.{_≡_}
+use mathlib.Core.Bool.{Bool, cond, not, _&&_, _||_}
 use mathlib.Core.List.{List}
 use Prim.Native.Nat.{ℕ}
 use Rattle.paper.specs.declared.Module.{Module}
+use Rattle.paper.specs.declared.Batch.{Batch}
+use Rattle.paper.specs.declared.Columns.{Columns}
+use Rattle.paper.specs.declared.Outcome.{Outcome}
+use Rattle.paper.specs.declared.Outcome.the-variants.{Carried, WindowHeld, Dropped}
 use Rattle.paper.specs.declared.State.{State}
 use Rattle.paper.specs.declared.Command.{Command}
 use Rattle.paper.specs.declared.Reading.{Reading}
-use Rattle.paper.specs.Downloads.{Faces}
+use Rattle.paper.specs.Downloads.{isDropped, putIn, Faces}
 use Rattle.paper.specs.Carry.{commandOf, takeOf, commandStore, takeStore}
 use Rattle.carry_state.specs.declared.Done.{Done}
 use Rattle.carry_state.specs.Says.{Says}
@@ -20,3 +26,13 @@ pub record StoresCommand (g : Module) (f : Faces) (s : State) (c : Command) (r :
 pub record StoresReading (g : Module) (f : Faces) (s : State) (q : Reading) (r : Done) (ds : List ℕ) : Type 0 where
   pub says : Says r (takeOf g f s q)
   pub store : ds ≡ takeStore g f s q
+
+-- the paper's `noted` and `defineAnswer`, and the downloads after a download has come whole: `held` for the hold
+abbrev pub notedIf : Bool → List ℕ → Batch → Bool
+notedIf held ds d = d .dropped || (not held && isDropped ds (d .code))
+
+abbrev pub answerIf : Bool → Bool → Outcome
+answerIf held dropped = cond held WindowHeld (cond dropped Dropped Carried)
+
+abbrev pub storedIf : Bool → List ℕ → Batch → Columns → List ℕ
+storedIf held ds d c = cond held ds (putIn ds (d .code) c)

@@ -12,19 +12,15 @@ use paper::Outcome;
 use paper::Reading;
 use paper::State;
 ghost use mathlib.Core.Path.{_≡_};
-ghost use mathlib.Core.Bool.{cond, not, _&&_, _||_};
 ghost use mathlib.Core.List.{List};
 ghost use Prim.Native.Nat.{ℕ};
-ghost use lib.ListN.{length};
-ghost use Rattle.paper.specs.Downloads.{storeLength, isDropped, putIn, faces};
-ghost use Rattle.paper.specs.Carry.{isHeld, defineAnswer};
-ghost use Rattle.carry_store.specs.Stores.{StoresCommand, StoresReading};
+ghost use Rattle.paper.specs.Downloads.{faces};
+ghost use Rattle.paper.specs.Carry.{isHeld};
+ghost use Rattle.carry_store.specs.Stores.{StoresCommand, StoresReading, notedIf, answerIf, storedIf};
 
 // Stores a download that has come whole, and gives its define's note of a drop. While held nothing is stored, and nothing dropped.
 fn store_one(store: &mut [u8], held: bool, batch: Batch, columns: Columns) -> bool
-    requires { ⌜ length (now store) ≡ storeLength ⌝ }
-    ensures { λ r. ⌜ (r ≡ (batch .dropped || (not held && isDropped (now (store .entry)) (batch .code))))
-        × (now (store .exit) ≡ cond held (now (store .entry)) (putIn (now (store .entry)) (batch .code) columns)) ⌝ }
+    ensures { λ r. ⌜ (r ≡ notedIf held (now (store .entry)) batch) × (now (store .exit) ≡ storedIf held (now (store .entry)) batch columns) ⌝ }
 {
     let noted = batch.dropped;
     if held {
@@ -38,7 +34,7 @@ fn store_one(store: &mut [u8], held: bool, batch: Batch, columns: Columns) -> bo
 
 // What a define read to its end is answered.
 fn define_answer(held: bool, dropped: bool) -> Outcome
-    ensures { λ r. ⌜ r ≡ cond held Outcome.WindowHeld (cond dropped Outcome.Dropped Outcome.Carried) ⌝ }
+    ensures { λ r. ⌜ r ≡ answerIf held dropped ⌝ }
 {
     if held {
         return Outcome::WindowHeld;
@@ -51,7 +47,6 @@ fn define_answer(held: bool, dropped: bool) -> Outcome
 
 // A download's last column has come: it is stored, and its define goes on with the next code or is read to its end.
 pub fn glyph_end(store: &mut [u8], s: State, batch: Batch, columns: Columns) -> Done
-    requires { ⌜ length (now store) ≡ storeLength ⌝ }
     ensures { λ r. ⌜ ((g : Module) (font : List ℕ) →
         StoresReading g (faces font (now (store .entry))) s (Reading.GlyphEnd batch columns) r (now (store .exit))) ⌝ }
 {
@@ -75,7 +70,7 @@ pub fn glyph_end(store: &mut [u8], s: State, batch: Batch, columns: Columns) -> 
 
 // Erase; `held` says whether a window is held.
 pub fn erase(g: Module, store: &mut [u8], s: State, held: bool, a: u8, code: u8) -> Done
-    requires { ⌜ (length (now store) ≡ storeLength) × (held ≡ isHeld (s .hold)) ⌝ }
+    requires { ⌜ held ≡ isHeld (s .hold) ⌝ }
     ensures { λ r. ⌜ ((font : List ℕ) →
         StoresCommand g (faces font (now (store .entry))) s (Command.Erase a code) r (now (store .exit))) ⌝ }
 {

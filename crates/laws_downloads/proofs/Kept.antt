@@ -1,18 +1,18 @@
 -- Store and erase: what they keep, and what is found afterwards. Assumes nothing.
 use mathlib.Core.Path.{_≡_, refl, sym, ap, _∙_}
-use mathlib.Core.Bool.{Bool, true, false, cond, not, _&&_, and-false, false≢true}
+use mathlib.Core.Bool.{true, false, cond, not, _&&_, and-false, false≢true}
 use mathlib.Core.List.{List}
-use Prim.Native.Nat.{ℕ, _+_, _*_, _/_, _≤_, _<_}
+use Prim.Native.Nat.{ℕ, _+_, _*_, _≤_, _<_}
 use native.Mathlib.Omega.{arith}
 use lib.ListN.{length, getD, getD-replicate, length-replicate}
-use lib.Dec.{eqb, leb, ltb}
-use borrow.Author.Tests.{ltb-true, ltb-false, leb-true, leb-false, le-leb, lt-leb, lt-ltb, le-ltb, eq-eqb, ne-eqb, not-true}
+use lib.Dec.{eqb, leb}
+use borrow.Author.Tests.{ltb-true, ltb-false, leb-true, leb-false, le-leb, lt-leb, lt-ltb, eq-eqb, not-true}
 use Rattle.paper.specs.declared.Columns.{Columns}
 use Rattle.paper.specs.Downloads.{placeLength, storeLength, placesIn, codeAt, place, isStored, isFull, withPlace, downloadBytes, freeBytes, placeFor, isDropped, putIn, erased, allErased}
 use Rattle.paper.specs.Bounds.{isFree, downloadOk, placeOk, storeOk}
 use Rattle.laws_bytes.specs.Readings.{wholeColumns}
 use Rattle.laws_bytes.proofs.Tests.{both-of}
-use Rattle.laws_memory.proofs.Tests.{lt-cases, eq-cases}
+use Rattle.laws_memory.proofs.Tests.{eq-cases}
 use Rattle.laws_downloads.proofs.Tests.{by-test, not-ltb, below-all}
 use Rattle.laws_downloads.proofs.Places.{place-le, place-found, stored-at, stored-none}
 use Rattle.laws_downloads.proofs.Written.{with-length, with-places, with-same, with-other, with-beyond, code-same, code-other, place-with-other, place-with-same}
@@ -40,6 +40,9 @@ module _ (ds : List ℕ) where
   for-le c =
       by-test (λ t. cond t (place ds c) (place ds 0) ≤ place ds c) (isStored ds c) (λ e. omega arith)
       (λ e. omega (arith, ltb-false (place ds c) (placesIn ds) e, place-le ds 0))
+
+  pub for-places : (c : ℕ) → placeFor ds c ≤ placesIn ds
+  for-places c = omega (arith, for-le c, place-le ds c)
 
   pub for-stored : (c : ℕ) → place ds c < placesIn ds → placeFor ds c ≡ place ds c
   unfolding placeFor

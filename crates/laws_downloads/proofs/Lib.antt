@@ -5,4 +5,5 @@ pub mod Places
 pub mod Written
 pub mod Stored
 pub mod Kept
+pub mod Drawn
 pub mod Notes

@@ -1,19 +1,18 @@
 -- The half-read define: its note of a drop, from code to code. Assumes nothing.
-use mathlib.Core.Path.{_≡_, refl, sym, ap, _∙_}
+use mathlib.Core.Path.{_≡_, refl, ap, _∙_}
 use mathlib.Core.Bool.{Bool, true, false, cond, not, _&&_, _||_, false≢true}
 use mathlib.Core.List.{List}
-use Prim.Native.Nat.{ℕ, suc, _+_, _-_, _≤_, _<_}
+use Prim.Native.Nat.{ℕ, suc, _+_, _-_, _≤_}
 use native.Mathlib.Omega.{arith}
-use lib.ListN.{length}
 use lib.Dec.{leb}
 use borrow.Author.Tests.{leb-true}
 use Rattle.paper.specs.declared.Batch.{Batch}
 use Rattle.paper.specs.declared.Columns.{Columns}
-use Rattle.paper.specs.Downloads.{storeLength, isStored, isFull, isDropped, putIn}
+use Rattle.paper.specs.Downloads.{isStored, isFull, isDropped, putIn}
 use Rattle.paper.specs.Reading.{batch, nextCode}
 use Rattle.paper.specs.Bounds.{batchOk, allBelow, storeOk, allStored, noteOk}
 use Rattle.laws_bytes.proofs.Tests.{both-of}
-use Rattle.laws_downloads.proofs.Tests.{by-test, below-same}
+use Rattle.laws_downloads.proofs.Tests.{below-same}
 use Rattle.laws_downloads.proofs.Stored.{store-length}
 use Rattle.laws_downloads.proofs.Kept.{dropped-full, put-stored, put-other-stored, put-full}
 

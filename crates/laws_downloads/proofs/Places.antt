@@ -1,16 +1,13 @@
 -- The first place of a code, and what stands where after a place is set. Assumes nothing.
-use mathlib.Core.Path.{_≡_, refl, sym, ap, _∙_}
-use mathlib.Core.Bool.{Bool, true, false, cond}
+use mathlib.Core.Path.{_≡_, ap, _∙_}
+use mathlib.Core.Bool.{Bool, true, false}
 use mathlib.Core.List.{List}
-use Prim.Native.Nat.{ℕ, _+_, _-_, _*_, _/_, _%_, _≤_, _<_}
+use Prim.Native.Nat.{ℕ, _+_, _-_, _≤_, _<_}
 use native.Mathlib.Omega.{arith}
-use lib.ListN.{length, getD}
 use lib.Dec.{eqb}
 use borrow.Author.Tests.{eqb-true, eq-eqb, ne-eqb, lt-ltb, le-ltb}
-use Rattle.paper.specs.Panel.{each}
-use Rattle.paper.specs.Downloads.{placeLength, placesIn, codeAt, widthAt, columnAt, seek, place, isStored, withPlace}
+use Rattle.paper.specs.Downloads.{placesIn, codeAt, seek, place, isStored}
 use Rattle.laws_memory.proofs.Tests.{lt-cases}
-use Rattle.laws_memory.proofs.Each.{length-each, getD-each, each-by}
 use Rattle.laws_downloads.proofs.Seek.{seek-here, seek-on, seek-end, seek-le, seek-found, seek-first, seek-is, seek-same}
 
 -- place k holds the code

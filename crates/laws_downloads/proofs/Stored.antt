@@ -1,20 +1,24 @@
 -- Accepted downloads: what each place holds, and which stay accepted when another place is written. Assumes nothing.
 use mathlib.Core.Path.{_≡_, refl, sym, ap, _∙_}
-use mathlib.Core.Bool.{Bool, true, false, cond, _&&_, _||_, or-true}
+use mathlib.Core.Bool.{true, cond, _&&_, or-true}
 use mathlib.Core.List.{List}
 use mathlib.Core.Logic.{_⊎_, inl, inr, ⊎-elim}
-use Prim.Native.Nat.{ℕ, _+_, _*_, _/_, _≤_, _<_}
+use Prim.Native.Nat.{ℕ, _+_, _*_, _≤_, _<_}
 use native.Mathlib.Nat.{add-zero, add-assoc}
 use native.Mathlib.Omega.{arith}
 use lib.ListN.{length, getD}
 use lib.Dec.{eqb, leb}
 use borrow.Author.Tests.{leb-true, eqb-true, eq-eqb}
 use Rattle.paper.specs.Panel.{bytesFrom}
-use Rattle.paper.specs.Downloads.{placeLength, storeLength, placesIn, codeAt, widthAt, columnAt, place, withPlace, ownGlyph}
-use Rattle.paper.specs.Bounds.{allBelow, isFree, downloadOk, placeOk, storeOk}
+use Rattle.paper.specs.Downloads.{placeLength, storeLength, codeAt, widthAt, place, withPlace, ownGlyph}
+use Rattle.paper.specs.Bounds.{isFree, downloadOk, placeOk, storeOk}
 use Rattle.laws_bytes.proofs.Tests.{both-of}
 use Rattle.laws_downloads.proofs.Tests.{by-test, either-of, below-at, below-all, below-same}
 use Rattle.laws_downloads.proofs.Written.{with-other, place-with-other, bytes-same}
+
+-- a download has no more columns than its place has room for
+pub columns-le : (w : ℕ) → cond (eqb w 5) 5 7 ≤ 7
+columns-le w = by-test (λ t. cond t 5 7 ≤ 7) (eqb w 5) (λ e. omega arith) (λ e. omega arith)
 
 -- ---- two stores that have the same bytes in a place
 
@@ -40,18 +44,12 @@ module _ (ds es : List ℕ) (k : ℕ) (same : Same ds es k) where
 
   pub glyph-of : ownGlyph es k ≡ ownGlyph ds k
   glyph-of =
-      ap (λ (w : ℕ). bytesFrom (columns w) (placeLength * k + 2) es) (same 1 (omega arith))
-      ∙ bytes-same (columns (widthAt ds k)) es ds (placeLength * k + 2) (placeLength * k + 2)
+      ap (λ (w : ℕ). bytesFrom (cond (eqb w 5) 5 7) (placeLength * k + 2) es) (same 1 (omega arith))
+      ∙ bytes-same (cond (eqb (widthAt ds k) 5) 5 7) es ds (placeLength * k + 2) (placeLength * k + 2)
       (λ r l.
       ap (λ (a : ℕ). getD es a 0) (add-assoc (placeLength * k) 2 r)
-      ∙ same (2 + r) (omega (arith, few (widthAt ds k)))
+      ∙ same (2 + r) (omega (arith, columns-le (widthAt ds k)))
       ∙ ap (λ (a : ℕ). getD ds a 0) (sym (add-assoc (placeLength * k) 2 r)))
-    where
-      columns : ℕ → ℕ
-      columns w = cond (eqb w 5) 5 7
-
-      few : (w : ℕ) → cond (eqb w 5) 5 7 ≤ 7
-      few w = by-test (λ t. cond t 5 7 ≤ 7) (eqb w 5) (λ e. omega arith) (λ e. omega arith)
 
 -- ---- the parts of the test
 

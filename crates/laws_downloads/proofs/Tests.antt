@@ -43,6 +43,11 @@ module _ (f : ℕ → Bool) where
   below-all zero h = refl
   below-all (suc n) h = rw (below-all n (λ k l. h k (omega arith)), h n (omega arith))
 
+  -- one at which the test fails
+  pub below-not : (n k : ℕ) → k < n → f k ≡ false → allBelow f n ≡ false
+  below-not n k l h =
+      by-test (λ t. allBelow f n ≡ t → t ≡ false) (allBelow f n) (λ _ e. sym (below-at n e k l) ∙ h) (λ _ _. refl) refl
+
   -- the loop that tests them: one more, and all of them
   pub below-next : {a b : Bool} (k : ℕ) → a ≡ allBelow f k → b ≡ f k → (a && b) ≡ allBelow f (k + 1)
   below-next k p q = rw add-one (ap₂ (λ (x y : Bool). x && y) p q)

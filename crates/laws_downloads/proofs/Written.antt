@@ -1,6 +1,6 @@
 -- What stands where after a place is written: `withPlace` of the paper. Assumes nothing.
 use mathlib.Core.Path.{_≡_, refl, sym, ap, ap₂, _∙_}
-use mathlib.Core.Bool.{Bool, true, false, cond}
+use mathlib.Core.Bool.{cond}
 use mathlib.Core.List.{List, _∷_}
 use Prim.Native.Nat.{ℕ, zero, suc, _+_, _*_, _/_, _%_, _≤_, _<_}
 use native.Mathlib.Nat.{add-zero, add-suc, suc-add}
@@ -8,8 +8,8 @@ use native.Mathlib.Omega.{arith}
 use lib.ListN.{length, getD}
 use lib.Dec.{eqb}
 use borrow.Author.Tests.{eq-eqb, ne-eqb}
-use Rattle.paper.specs.Panel.{each, bytesFrom}
-use Rattle.paper.specs.Downloads.{placeLength, placesIn, codeAt, widthAt, place, withPlace, ownGlyph}
+use Rattle.paper.specs.Panel.{bytesFrom}
+use Rattle.paper.specs.Downloads.{placeLength, placesIn, codeAt, place, withPlace}
 use Rattle.laws_memory.proofs.Tests.{eq-cases}
 use Rattle.laws_memory.proofs.Each.{length-each, getD-each, each-by}
 use Rattle.laws_downloads.proofs.Places.{holds, place-first, place-is, place-same}

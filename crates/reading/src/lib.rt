@@ -55,9 +55,10 @@ fn with_column(c: Columns, b: u8) -> Columns
     requires { ⌜ c .come < 7 ⌝ }
     ensures { λ r. ⌜ r ≡ withColumn c b ⌝ }
 {
+    let come = c.come;
     let mut t = c;
-    t.come = c.come + 1;
-    match c.come {
+    t.come = come + 1;
+    match come {
         0 => t.c0 = b,
         1 => t.c1 = b,
         2 => t.c2 = b,

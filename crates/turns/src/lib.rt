@@ -13,7 +13,6 @@ ghost use mathlib.Core.Bool.{true};
 ghost use mathlib.Core.List.{List};
 ghost use Prim.Native.Nat.{ℕ, _<_, _≤_};
 ghost use lib.ListN.{length, drop};
-ghost use Rattle.paper.specs.Downloads.{storeLength};
 ghost use Rattle.paper.specs.Bounds.{halfOk};
 ghost use Rattle.turns_light.specs.Turns.{Gathers, Due, Turned};
 
@@ -116,7 +115,7 @@ fn feed_command(
     f: Fed,
     i: usize,
 ) -> Turn
-    requires { ⌜ Due g (now mem) (now font) (now piece) f i × (length (now store) ≡ storeLength) ⌝ }
+    requires { ⌜ Due g (now mem) (now font) (now piece) f i ⌝ }
     ensures { λ r. ⌜ Turned g (now (font .entry)) f (now (mem .entry)) (now (store .entry)) (now (piece .entry)) i
         r (now (mem .exit)) (now (store .exit)) ⌝ }
 {
@@ -149,7 +148,7 @@ pub fn feed_some(
     f: Fed,
     i: usize,
 ) -> Turn
-    requires { ⌜ Due g (now mem) (now font) (now piece) f i × (length (now store) ≡ storeLength) ⌝ }
+    requires { ⌜ Due g (now mem) (now font) (now piece) f i ⌝ }
     ensures { λ r. ⌜ Turned g (now (font .entry)) f (now (mem .entry)) (now (store .entry)) (now (piece .entry)) i
         r (now (mem .exit)) (now (store .exit)) ⌝ }
 {

@@ -13,7 +13,6 @@ ghost use mathlib.Core.Path.{_≡_};
 ghost use mathlib.Core.Bool.{true};
 ghost use Prim.Native.Nat.{_+_, _<_, _≤_};
 ghost use lib.ListN.{length};
-ghost use Rattle.paper.specs.Downloads.{storeLength};
 ghost use Rattle.turns_light.specs.Turns.{Light, Due, Turned, onDesk, turnedTo};
 
 // A turn of the loop over a piece: what has been fed, and the place of the next byte.
@@ -79,7 +78,7 @@ pub fn feed_light(
     f: Fed,
     from: usize,
 ) -> Turn
-    requires { ⌜ Due g (now mem) (now font) (now piece) f from × ((length (now store) ≡ storeLength) × Light g (f .state) (now piece) from) ⌝ }
+    requires { ⌜ Due g (now mem) (now font) (now piece) f from × Light g (f .state) (now piece) from ⌝ }
     ensures { λ r. ⌜ Turned g (now (font .entry)) f (now (mem .entry)) (now (store .entry)) (now (piece .entry)) from
         r (now (mem .exit)) (now (store .entry)) ⌝ }
 {

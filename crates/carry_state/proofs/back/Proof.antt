@@ -74,7 +74,7 @@ returns-2 c font =
     ∙ ap (λ (v : View). withView s v)
     (c .before .before .back .ensures
     ∙ ap₂ (λ (v : View) (z : Cell). backOf v (z .columns) (z .rows)) (sized .before .view-of .ensures) (sized .cell-now .ensures))))
-    (is-10 _ font _ Back (record { carried = refl; owner = refl; domain = refl; defined = refl; room = fits left }))
+    (is-10 _ font _ Back (record { carried = refl; owner = refl; domain = refl; defined = refl; room = fits left; stored = refl }))
 
 pub back-spec : {M : Type 1} → statement M
 back-spec =

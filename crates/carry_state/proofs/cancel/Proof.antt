@@ -30,6 +30,7 @@ returns-2 c font = says (ends-at (c .ends2 .ensures) (c .before .cancel .ensures
       domain = refl;
       defined = refl;
       room = refl;
+      stored = refl;
     }))
 
 pub cancel-spec : {M : Type 1} → statement M

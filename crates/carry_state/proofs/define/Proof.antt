@@ -34,6 +34,7 @@ returns-2 c font = says (ends-at (c .ends2 .ensures) (c .before .define .ensures
       domain = ap not (sym (c .before .before .before .fits2 .ensures) ∙ c .before .before .if2 .taken);
       defined = refl;
       room = refl;
+      stored = refl;
     }))
 
 ends-requires-3 : tie.Need-ends-requires-3

@@ -31,6 +31,7 @@ returns c font = says
       domain = ap not (sym (c .before .before .before .before .before .before .before .in-enlargement .ensures) ∙ c .before .before .before .before .before .before .if1 .taken);
       defined = refl;
       room = refl;
+      stored = refl;
     }))
 
 ends-requires-2 : tie.Need-ends-requires-2

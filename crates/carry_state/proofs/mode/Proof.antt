@@ -16,7 +16,7 @@ ends-requires c κs = search needs
 returns : tie.Need-returns
 unfolding asks carriedOut
 returns c font = says (ends-at (c .ends .ensures) (c .before .in-mode .ensures))
-    (is-10 _ font _ (Mode _) (record { carried = refl; owner = refl; domain = refl; defined = refl; room = refl }))
+    (is-10 _ font _ (Mode _) (record { carried = refl; owner = refl; domain = refl; defined = refl; room = refl; stored = refl }))
 
 pub mode-spec : {M : Type 1} → statement M
 mode-spec = tie.close (tie.spec in-mode-requires ends-requires returns)

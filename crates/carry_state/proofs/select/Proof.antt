@@ -44,6 +44,7 @@ returns-3 c font = says (c .ends3 .ensures)
           (sym (c .before .before .before .before .before .before .selectable .ensures)
           ∙ c .before .before .before .before .before .if3 .taken);
       room = refl;
+      stored = refl;
     }))
 
 ends-requires-4 : tie.Need-ends-requires-4

@@ -72,6 +72,7 @@ returns-3 c font =
       domain = ap not (sym (tested .before .in-domain .ensures) ∙ tested .if3 .taken);
       defined = refl;
       room = refl;
+      stored = refl;
     }))
 
 ends-requires-4 : tie.Need-ends-requires-4

@@ -38,6 +38,7 @@ returns c font =
       domain = ap not (sym (tested .before .inside-window .ensures) ∙ tested .if1 .taken);
       defined = refl;
       room = refl;
+      stored = refl;
     }))
 
 ends-requires-2 : tie.Need-ends-requires-2

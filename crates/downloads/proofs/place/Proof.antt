@@ -1,8 +1,7 @@
 -- `downloads::place` meets its contract. The loop's invariant: the place is still to come. Assumes nothing.
-use mathlib.Core.Path.{_≡_, sym, _∙_}
-use Prim.Native.Nat.{ℕ, _≤_, _-_}
+use mathlib.Core.Path.{_≡_, sym}
+use Prim.Native.Nat.{_≤_, _-_}
 use native.Mathlib.Omega.{arith}
-use borrow.Author.Needs.{needs}
 use Rattle.paper.specs.Downloads.{placesIn, seek, place}
 use Rattle.laws_downloads.proofs.Places.{holds, look-starts, look-here, look-on, look-ends}
 use Rattle.downloads.proofs.place.Statement.{statement}

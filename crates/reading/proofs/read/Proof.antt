@@ -1,7 +1,11 @@
 -- `read` meets its contract: an arm for each case of what is half read. Assumes nothing.
 use Rattle.paper.specs.Reading.{readOf}
+use Rattle.reading.proofs.Columns.{has-place}
 use Rattle.reading.proofs.read.Statement.{statement}
 use Rattle.reading.proofs.read.Tie as tie
+
+with-column-requires : tie.Need-with-column-requires
+with-column-requires c κs = has-place _ _ _ _ (c .before .half5 .given .1) (c .before .before .before .pre)
 
 pub read-spec : {M : Type 1} → statement M
 unfolding readOf
@@ -36,7 +40,9 @@ read-spec =
     (λ c κs. tt)
     (λ c. c .match .keys14)
     (λ c κs. tt)
+    (λ c κs. tt)
     (λ c. c .match .keys15)
+    with-column-requires
     (λ c κs. tt)
     (λ c. c .match .keys16)
     (λ c. c .match .keys17)
@@ -54,6 +60,8 @@ read-spec =
     (λ c κs. tt)
     (λ c. c .match .keys24)
     (λ c κs. tt)
+    (λ c. c .match .keys25)
+    (λ c. c .match .keys26)
     -- what each arm gives
     (λ c. rw (c .before .enum-told .given .1) (c .read-first .ensures))
     (λ c. rw (c .before .enum-told2 .given .1) (c .read-escape .ensures))
@@ -68,8 +76,8 @@ read-spec =
     (λ c. rw (c .before .enum-told9 .given .1) (c .more-if .ensures))
     (λ c. rw (c .before .enum-told10 .given .1) (c .more-if2 .ensures))
     (λ c. rw (c .before .before .half3 .given .1) (c .more-if3 .ensures))
-    (λ c. rw (c .before .before .half4 .given .1) (c .more-if4 .ensures))
-    (λ c. rw (c .before .before .half5 .given .1) (c .read-glyph-byte .ensures))
+    (λ c. rw (c .before .before .before .half4 .given .1) (rw (c .before .no-columns .ensures) at (c .more-if4 .ensures)))
+    (λ c. rw (c .before .before .before .half5 .given .1) (rw (c .before .with-column .ensures) at (c .read-column .ensures)))
     (λ c. rw (c .before .half6 .given .1))
     (λ c. rw (c .before .before .before .half7 .given .1) (rw (c .before .word16 .ensures) at (c .read-word .ensures)))
     (λ c. rw (c .before .before .half8 .given .1) (c .more-if5 .ensures))
@@ -78,4 +86,6 @@ read-spec =
     (λ c. rw (c .before .half10 .given .1))
     (λ c. rw (c .enum-told12 .given .1))
     (λ c. rw (c .before .before .enum-told13 .given .1) (rw (c .before .is-between .ensures) at (c .more-if6 .ensures)))
-    (λ c. rw (c .before .before .half11 .given .1) (c .read-window-b .ensures)))
+    (λ c. rw (c .before .before .half11 .given .1) (c .read-window-b .ensures))
+    (λ c. rw (c .enum-told14 .given .1))
+    (λ c. rw (c .before .half12 .given .1)))
