@@ -1,13 +1,12 @@
 -- A call's steps (the record read, the call for the module, its number, the record written) give what the definition of the call says.
 -- A feed writes the downloads where they stand, and only then the state; a refresh writes the spans alone. Assumes nothing.
-use Prim.Native.Nat.{ℕ, _-_}
+use Prim.Native.Nat.{ℕ}
 use mathlib.Core.Path.{_≡_, refl, sym, ap, ap₂, subst, _∙_}
 use mathlib.Core.Bool.{Bool, true, false, cond, not}
 use mathlib.Core.List.{List, _++_}
 use lib.ListN.{length, take, take-append-drop}
 use lib.Dec.{eqb}
 use borrow.Author.Tests.{eq-eqb, ne-eqb, not-false}
-use borrow.Rule.Slice.PartMut.{putMid}
 use Rattle.paper.specs.declared.Answer.{Answer}
 use Rattle.paper.specs.declared.Fed.{Fed}
 use Rattle.paper.specs.declared.Module.{Module}
@@ -28,7 +27,7 @@ use Rattle.record_write.proofs.Laid.{spans-into}
 use Rattle.record_read.specs.Record.{stateIn, storeIn}
 use Rattle.record_read.proofs.Back.{accepted-record, state-part}
 use Rattle.face.specs.Face.{wrongLength, recordAfter, stateAfter, spansAfter, starting, startingC, startC, fed, feeding, feedingC, feedC, calling, callingC, holdC, releaseC, moved, refreshing, refreshingC, refreshC}
-use Rattle.face.proofs.Parts.{store-put, store-in}
+use Rattle.face.proofs.Parts.{withStore, store-put, store-in}
 use Rattle.face.proofs.Left.{Left, feed-store-left}
 
 -- ---- a refresh changes the spans alone
@@ -72,10 +71,6 @@ module _ (g : Module) (l m glass : List ℕ) where
       (λ _. by-cond By (not (accepted g s ds)) (λ _. refl) (λ h. emptied-only (not-false (accepted g s ds) h))))
 
 -- ---- a feed writes the downloads in their place
-
--- the record with these in the downloads' place
-abbrev pub withStore : List ℕ → List ℕ → List ℕ
-withStore l ds = putMid stateLength (length l - stateLength) l ds
 
 -- a call with refusal r gave these downloads, and the record has them; where it was refused they are those that were there
 store-kept : (l ds : List ℕ) (r : Refusal) (s : State) → length l ≡ recordLength → Left (storeIn l) r ds
