@@ -4,7 +4,6 @@ use mathlib.Core.Logic.{_↔_, _≢_, Iff·rfl}
 use mathlib.Core.Bool.{Bool, true, false, cond, not}
 use mathlib.Core.List.{List, [], _∷_}
 use Prim.Native.Nat.{ℕ}
-use native.Mathlib.Omega.{arith}
 use lib.Dec.{eqb}
 use lib.ListN.{length}
 use borrow.Author.Tests.{eqb-true, eqb-false, eq-eqb, ne-eqb}
@@ -14,12 +13,14 @@ use Rattle.paper.specs.declared.Refusal.the-variants.{Accepted, MemoryLength, F
 use Rattle.paper.specs.declared.State.{State}
 use Rattle.paper.specs.declared.Answer.{Answer}
 use Rattle.paper.specs.Panel.{memoryLength, glassLength, fontLength}
+use Rattle.paper.specs.Downloads.{allErased}
 use Rattle.paper.specs.Numbers.{refusalNumber, outcomeNumber}
 use Rattle.paper.specs.Reading.{between}
 use Rattle.paper.specs.Settings.{windowAt, isDefined}
 use Rattle.paper.specs.Bounds.{accepted}
 use Rattle.paper.specs.Carry.{isHeld}
 use Rattle.paper.specs.Calls.{isNot, isAccepted, Starting, startRefusal, startCall, Feeding, feedRefusal, fedNothing, feedCall, holdRefusal, holdCall, releaseRefusal, releaseCall, Refreshing, refreshRefusal, refreshCall}
+use Rattle.laws_state.proofs.Tests.{by-cond}
 use Rattle.laws_state.proofs.Joined.{run-refusal}
 use Rattle.demands.specs.Demands.{oneOf, StartAnswers, FeedAnswers, HoldAnswers, ReleaseAnswers, RefreshAnswers}
 use Rattle.demands.proofs.Rows.{here, later, otherwise, never, not-yes, not-no, length-wrong, length-right}
@@ -62,12 +63,12 @@ last i n = eqb-false 0 i n
 
 -- ---- start
 
-module _ (g : Module) (m : List ℕ) where
-  start-refusal : refusalNumber (startCall g m .answer .refusal) ≡ refusalNumber (startRefusal g m)
+module _ (g : Module) (m ds : List ℕ) where
+  start-refusal : refusalNumber (startCall g m ds .answer .refusal) ≡ refusalNumber (startRefusal g m)
   unfolding startCall
   start-refusal = answers-by (λ (q : Starting). q .answer .refusal) (startRefusal g m) _ _ refl refl
 
-  pub start-answers : StartAnswers g m
+  pub start-answers : StartAnswers g m ds
   unfolding startRefusal startCall refusalNumber
   start-answers =
       let r = start-refusal in
@@ -79,6 +80,7 @@ module _ (g : Module) (m : List ℕ) where
         number-0 = says r 0 (otherwise refusalNumber 0 a MemoryLength Accepted refl refl (length-right n m));
         refused = λ e. rw (is-refused (startRefusal g m) (rw r at e)) (refl, refl);
         taken = λ e. rw (is-taken (startRefusal g m) (rw r at e)) (refl, refl);
+        downloads = by-cond (λ (q : Starting). q .store ≡ allErased ds) (isAccepted (startRefusal g m)) (λ _. refl) (λ _. refl);
       }
 
 -- ---- two lists are lent, then the state is tested: 1, the number of w, 8
@@ -134,19 +136,19 @@ module _ (n : ℕ) (m : List ℕ) (k : ℕ) (l : List ℕ) (ok : Bool) (w : Refu
 
 -- ---- feed
 
-module _ (g : Module) (font : List ℕ) (s : State) (m bytes : List ℕ) where
-  feed-refusal : refusalNumber (feedCall g font s m bytes .answer .refusal) ≡ refusalNumber (feedRefusal g font s m)
+module _ (g : Module) (font : List ℕ) (s : State) (ds m bytes : List ℕ) where
+  feed-refusal : refusalNumber (feedCall g font s ds m bytes .answer .refusal) ≡ refusalNumber (feedRefusal g font s ds m)
   unfolding feedCall
   feed-refusal =
-      answers-by (λ (q : Feeding). q .answer .refusal) (feedRefusal g font s m) _ _
-      (run-refusal g font (fedNothing Accepted s m) bytes) refl
+      answers-by (λ (q : Feeding). q .answer .refusal) (feedRefusal g font s ds m) _ _
+      (run-refusal g font (fedNothing Accepted s ds m) bytes) refl
 
-  pub feed-answers : FeedAnswers g font s m bytes
+  pub feed-answers : FeedAnswers g font s ds m bytes
   unfolding feedRefusal feedCall refusalNumber outcomeNumber
   feed-answers =
       let r = feed-refusal in
       let n = memoryLength g in
-      let ok = accepted g s in
+      let ok = accepted g s ds in
       record {
         listed = rw r (lent-listed n m (fontLength g) font ok FontLength (0 ∷ 1 ∷ 2 ∷ 8 ∷ []) refl refl refl refl);
         number-1 = says r 1 (lent-1 n m (fontLength g) font ok FontLength refl);
@@ -154,47 +156,47 @@ module _ (g : Module) (font : List ℕ) (s : State) (m bytes : List ℕ) where
         number-8 = says r 8 (lent-8 n m (fontLength g) font ok FontLength refl);
         number-0 = says r 0 (lent-0 n m (fontLength g) font ok FontLength refl);
         refused = λ e.
-            rw (is-refused (feedRefusal g font s m) (rw r at e))
-            (record { state = refl; mem = refl; carried = refl; answered = refl; outcome = refl });
+            rw (is-refused (feedRefusal g font s ds m) (rw r at e))
+            (record { state = refl; downloads = refl; mem = refl; carried = refl; answered = refl; outcome = refl });
       }
 
 -- ---- refresh
 
-module _ (g : Module) (s : State) (m glass : List ℕ) where
-  refresh-refusal : refusalNumber (refreshCall g s m glass .answer .refusal) ≡ refusalNumber (refreshRefusal g s m glass)
+module _ (g : Module) (s : State) (ds m glass : List ℕ) where
+  refresh-refusal : refusalNumber (refreshCall g s ds m glass .answer .refusal) ≡ refusalNumber (refreshRefusal g s ds m glass)
   unfolding refreshCall
   refresh-refusal =
-      answers-by (λ (q : Refreshing). q .answer .refusal) (refreshRefusal g s m glass) _ _ refl refl
+      answers-by (λ (q : Refreshing). q .answer .refusal) (refreshRefusal g s ds m glass) _ _ refl refl
 
-  pub refresh-answers : RefreshAnswers g s m glass
+  pub refresh-answers : RefreshAnswers g s ds m glass
   unfolding refreshRefusal refreshCall refusalNumber
   refresh-answers =
       let r = refresh-refusal in
       let n = memoryLength g in
       let k = glassLength g in
-      let ok = accepted g s in
+      let ok = accepted g s ds in
       record {
         listed = rw r (lent-listed n m k glass ok GlassLength (0 ∷ 1 ∷ 3 ∷ 8 ∷ []) refl refl refl refl);
         number-1 = says r 1 (lent-1 n m k glass ok GlassLength refl);
         number-3 = says r 3 (lent-w n m k glass ok GlassLength 3 refl refl refl refl);
         number-8 = says r 8 (lent-8 n m k glass ok GlassLength refl);
         number-0 = says r 0 (lent-0 n m k glass ok GlassLength refl);
-        refused = λ e. rw (is-refused (refreshRefusal g s m glass) (rw r at e)) (refl, refl, refl);
-        taken = λ e. rw (is-taken (refreshRefusal g s m glass) (rw r at e)) (refl, refl, refl);
+        refused = λ e. rw (is-refused (refreshRefusal g s ds m glass) (rw r at e)) (refl, refl, refl);
+        taken = λ e. rw (is-taken (refreshRefusal g s ds m glass) (rw r at e)) (refl, refl, refl);
       }
 
 -- ---- hold
 
-module _ (g : Module) (s : State) (k : ℕ) where
-  hold-refusal : refusalNumber (holdCall g s k .refusal) ≡ refusalNumber (holdRefusal g s k)
+module _ (g : Module) (s : State) (ds : List ℕ) (k : ℕ) where
+  hold-refusal : refusalNumber (holdCall g s ds k .refusal) ≡ refusalNumber (holdRefusal g s ds k)
   unfolding holdCall
-  hold-refusal = answers-by (λ (q : Answer). q .refusal) (holdRefusal g s k) _ _ refl refl
+  hold-refusal = answers-by (λ (q : Answer). q .refusal) (holdRefusal g s ds k) _ _ refl refl
 
-  pub hold-answers : HoldAnswers g s k
+  pub hold-answers : HoldAnswers g s ds k
   unfolding holdRefusal holdCall refusalNumber
   hold-answers =
       let r = hold-refusal in
-      let ok = accepted g s in
+      let ok = accepted g s ds in
       let held = isHeld (s .hold) in
       let named = between 1 4 k in
       let defined = isDefined (windowAt (s .windows) k) in
@@ -238,22 +240,22 @@ module _ (g : Module) (s : State) (k : ℕ) where
             (later refusalNumber 0 held HeldAlready from-4 refl Iff·rfl
             (later refusalNumber 0 (not named) NoSuchWindow from-5 refl (not-no named)
             (otherwise refusalNumber 0 (not defined) UndefinedWindow Accepted refl refl (not-no defined)))));
-        refused = λ e. rw (is-refused (holdRefusal g s k) (rw r at e));
-        taken = λ e. rw (is-taken (holdRefusal g s k) (rw r at e));
+        refused = λ e. rw (is-refused (holdRefusal g s ds k) (rw r at e));
+        taken = λ e. rw (is-taken (holdRefusal g s ds k) (rw r at e));
       }
 
 -- ---- release
 
-module _ (g : Module) (s : State) where
-  release-refusal : refusalNumber (releaseCall g s .refusal) ≡ refusalNumber (releaseRefusal g s)
+module _ (g : Module) (s : State) (ds : List ℕ) where
+  release-refusal : refusalNumber (releaseCall g s ds .refusal) ≡ refusalNumber (releaseRefusal g s ds)
   unfolding releaseCall
-  release-refusal = answers-by (λ (q : Answer). q .refusal) (releaseRefusal g s) _ _ refl refl
+  release-refusal = answers-by (λ (q : Answer). q .refusal) (releaseRefusal g s ds) _ _ refl refl
 
-  pub release-answers : ReleaseAnswers g s
+  pub release-answers : ReleaseAnswers g s ds
   unfolding releaseRefusal releaseCall refusalNumber
   release-answers =
       let r = release-refusal in
-      let ok = accepted g s in
+      let ok = accepted g s ds in
       let held = isHeld (s .hold) in
       let from-7 : Refusal = cond (not held) NotHeld Accepted in
       let ns : List ℕ = 0 ∷ 8 ∷ 7 ∷ [] in
@@ -272,6 +274,6 @@ module _ (g : Module) (s : State) where
             says r 0
             (later refusalNumber 0 (not ok) BrokenState from-7 refl (not-no ok)
             (otherwise refusalNumber 0 (not held) NotHeld Accepted refl refl (not-no held)));
-        refused = λ e. rw (is-refused (releaseRefusal g s) (rw r at e));
-        taken = λ e. rw (is-taken (releaseRefusal g s) (rw r at e));
+        refused = λ e. rw (is-refused (releaseRefusal g s ds) (rw r at e));
+        taken = λ e. rw (is-taken (releaseRefusal g s ds) (rw r at e));
       }

@@ -25,22 +25,22 @@ use Rattle.laws_state.specs.Sized.{Sized}
 use Rattle.laws_state.specs.Guest.{Guest, OnlyInside}
 use Rattle.laws_state.specs.Joined.{Joined}
 use Rattle.laws_state.proofs.Tests.{by-cond}
-use Rattle.laws_state.proofs.Accepted.{run-accepted}
+use Rattle.laws_state.proofs.Records.{run-accepted}
 use Rattle.laws_state.proofs.Calls.{held-accepted, emptied-accepted, feed-keeps}
 use Rattle.laws_state.proofs.Refusals.{feed-given, feed-taken}
 use Rattle.laws_state.proofs.Joined.{feed-runs, run-refusal}
 use Rattle.laws_state.proofs.Pieces.{pieces-joined}
-use Rattle.laws_state.proofs.Held.{feed-guest, feed-outside}
+use Rattle.laws_state.proofs.Held.{feed-guest, feed-outside, feed-downloads}
 use Rattle.laws_memory.proofs.Spans.{marks-append, marks-length}
 use Rattle.laws_memory.proofs.Strokes.{apply-length}
 use Rattle.laws_memory.proofs.Glass.{covered, covered-facts, covered-test, refreshed-length, refreshed-in, refreshed-out, shown-most}
 use Rattle.laws_memory.proofs.Tests.{not-both}
 use Rattle.laws_glass.specs.Synced.{Synced}
 use Rattle.laws_glass.proofs.Glass.{strokes-synced, refreshed-shows, refreshed-synced}
-use Rattle.demands.specs.Events.{Event, piece, refresh, joined, Play, resting, fedThen, refreshedThen, followed, play, onwards, strokesOf, spansSince, owed, visible}
+use Rattle.demands.specs.Events.{Event, piece, refresh, joined, StateRecord, stateRecord, Play, resting, fedThen, refreshedThen, followed, play, onwards, strokesOf, spansSince, owed, visible}
 use Rattle.demands.specs.Demands.{holdNumber, InStep, RefreshedAt, Served}
 use Rattle.demands.proofs.Calls.{hold-answers}
-use Rattle.demands.proofs.Unseen.{run-same, run-state, run-mem, run-spans}
+use Rattle.demands.proofs.Unseen.{kept, run-same, run-kept, run-mem, run-spans}
 use Rattle.demands.proofs.Counts.{spanned-shown}
 
 -- ---- a play that goes on from another
@@ -58,10 +58,11 @@ module _ {S A : Type 0} where
 
 module _ (g : Module) where
   -- a refresh that is not refused
-  refresh-runs : (s : State) (m glass : List ℕ) → length m ≡ memoryLength g → length glass ≡ glassLength g → accepted g s ≡ true
-      → refreshCall g s m glass ≡ refreshing Accepted (emptied g s) (shownAll g (s .spans)) (refreshed g m (s .spans) glass)
+  refresh-runs : (s : State) (ds m glass : List ℕ) → length m ≡ memoryLength g → length glass ≡ glassLength g
+      → accepted g s ds ≡ true
+      → refreshCall g s ds m glass ≡ refreshing Accepted (emptied g s) (shownAll g (s .spans)) (refreshed g m (s .spans) glass)
   unfolding refreshCall refreshRefusal isAccepted refusalNumber
-  refresh-runs s m glass l z k = rw (eq-eqb (length m) (memoryLength g) l, eq-eqb (length glass) (glassLength g) z, k)
+  refresh-runs s ds m glass l z k = rw (eq-eqb (length m) (memoryLength g) l, eq-eqb (length glass) (glassLength g) z, k)
 
   -- as many spans as rows
   span-count : (since : List Stroke) → length (markAll (noSpans g) since) ≡ g .rows
@@ -69,30 +70,30 @@ module _ (g : Module) where
 
   module _ (font : List ℕ) where
     -- A LONGER PLAY PASSES THROUGH ITS BEGINNING
-    pub passes : (a b : List Event) (s : State) (m glass : List ℕ)
-        → let p = play g font s m glass a in
-        play g font s m glass (a ++ b) ≡ followed p (play g font (p .state) (p .mem) (p .glass) b)
-    passes [] b s m glass = rested s m glass (play g font s m glass b)
-    passes (piece bs ∷ a) b s m glass =
-        let f = feedCall g font s m bs in
-        let p = play g font (f .answer .state) (f .mem) glass a in
+    pub passes : (a b : List Event) (s : State) (ds m glass : List ℕ)
+        → let p = play g font s ds m glass a in
+        play g font s ds m glass (a ++ b) ≡ followed p (play g font (p .state .state) (p .state .downloads) (p .mem) (p .glass) b)
+    passes [] b s ds m glass = rested (stateRecord s ds) m glass (play g font s ds m glass b)
+    passes (piece bs ∷ a) b s ds m glass =
+        let f = feedCall g font s ds m bs in
+        let p = play g font (f .answer .state) (f .store) (f .mem) glass a in
         ap (fedThen (f .answer .refusal) (f .answer .carried) (f .answer .answered))
-        (passes a b (f .answer .state) (f .mem) glass)
+        (passes a b (f .answer .state) (f .store) (f .mem) glass)
         ∙ fed-first (f .answer .refusal) (f .answer .carried) (f .answer .answered) p
-        (play g font (p .state) (p .mem) (p .glass) b)
-    passes (refresh ∷ a) b s m glass =
-        let r = refreshCall g s m glass in
-        ap (refreshedThen (r .answer .refusal) (r .answer .moved)) (passes a b (r .answer .state) m (r .glass))
+        (play g font (p .state .state) (p .state .downloads) (p .mem) (p .glass) b)
+    passes (refresh ∷ a) b s ds m glass =
+        let r = refreshCall g s ds m glass in
+        ap (refreshedThen (r .answer .refusal) (r .answer .moved)) (passes a b (r .answer .state) ds m (r .glass))
 
     -- as many spans as rows, after any events
-    since-count : (events : List Event) (q : State) (since : List Stroke)
+    since-count : (events : List Event) (q : StateRecord) (since : List Stroke)
         → length (spansSince g font q since events) ≡ g .rows
     since-count [] q since = span-count since
     since-count (piece bs ∷ es) q since = since-count es (onwards g font q bs) (since ++ strokesOf g font q bs)
     since-count (refresh ∷ es) q since = since-count es q []
 
     -- no refresh owes more than the glass has
-    owed-most : (events : List Event) (q : State) (since : List Stroke) (i : ℕ)
+    owed-most : (events : List Event) (q : StateRecord) (since : List Stroke) (i : ℕ)
         → getD (owed g font q since events) i 0 ≤ glassLength g
     owed-most [] q since i = omega arith
     owed-most (piece bs ∷ es) q since i = owed-most es (onwards g font q bs) (since ++ strokesOf g font q bs) i
@@ -126,64 +127,75 @@ guest-spans k back v s r ps a =
 -- ---- the induction
 
 -- the state as the calls have it: the joined bytes' state, but its spans hold only what was written since the last refresh
-abbrev called : Module → State → List Stroke → State
-called g q since = withSpans q (markAll (noSpans g) since)
+abbrev called : Module → StateRecord → List Stroke → State
+called g q since = withSpans (q .state) (markAll (noSpans g) since)
 
--- what stands after the events: p as the calls have it, one as the joined bytes have it from state q, `since` being what was
--- written between the last refresh and the first event
-record Serves (g : Module) (font : List ℕ) (q : State) (since : List Stroke) (events : List Event) (p : Play State Refusal) (one : Feeding)
-    : Type 0 where
+-- a piece fed to a state record, and to the state as the calls have it
+abbrev fedTo : Module → List ℕ → StateRecord → List ℕ → List ℕ → Feeding
+fedTo g font q m bs = feedCall g font (q .state) (q .downloads) m bs
+
+-- a state record that is accepted
+abbrev Accepts : Module → StateRecord → Type 0
+Accepts g q = accepted g (q .state) (q .downloads) ≡ true
+
+-- what stands after the events: p as the calls have it, one as the joined bytes have it from state record q, `since` being what
+-- was written between the last refresh and the first event
+record Serves (g : Module) (font : List ℕ) (q : StateRecord) (since : List Stroke) (events : List Event) (p : Play StateRecord Refusal)
+    (one : Feeding) : Type 0 where
   refusals : p .answers ≡ replicate (length events) Accepted
   mem : p .mem ≡ one .mem
   carried : p .carried ≡ one .answer .carried
   answered : p .answered ≡ one .answer .answered
-  state : p .state ≡ withSpans (one .answer .state) (spansSince g font q since events)
+  state : p .state .state ≡ withSpans (one .answer .state) (spansSince g font q since events)
+  downloads : p .state .downloads ≡ one .store
   moved : p .moved ≡ owed g font q since events
   synced : Synced g (p .mem) (p .glass) (spansSince g font q since events)
   memory : length (p .mem) ≡ memoryLength g
   size : length (p .glass) ≡ glassLength g
-  accepts : accepted g (p .state) ≡ true
+  accepts : Accepts g (p .state)
 
 module _ (g : Module) (u : Usable g) (font : List ℕ) (fonts : length font ≡ fontLength g) where
-  module _ (q : State) (m bs : List ℕ) (l : length m ≡ memoryLength g) (h : accepted g q ≡ true) where
+  module _ (q : StateRecord) (m bs : List ℕ) (l : length m ≡ memoryLength g) (h : Accepts g q) where
+    abbrev start : Feeding
+    start = fedNothing Accepted (q .state) (q .downloads) m
+
     -- a piece of the joined bytes
-    fed-runs : feedCall g font q m bs ≡ run g font (fedNothing Accepted q m) bs
-    fed-runs = feed-runs g font q m bs (feed-taken g font q m l fonts h)
+    fed-runs : fedTo g font q m bs ≡ run g font start bs
+    fed-runs = feed-runs g font (q .state) (q .downloads) m bs (feed-taken g font (q .state) (q .downloads) m l fonts h)
 
     -- and of what comes after it
     fed-joined : (rest : List ℕ)
-        → Joined rest (feedCall g font q m bs)
-        (feedCall g font (onwards g font q bs) (applyAll g m (strokesOf g font q bs)) rest) (feedCall g font q m (bs ++ rest))
+        → Joined rest (fedTo g font q m bs)
+        (fedTo g font (onwards g font q bs) (applyAll g m (strokesOf g font q bs)) rest) (fedTo g font q m (bs ++ rest))
     fed-joined rest =
-        let start = fedNothing Accepted q m in
         subst₂
-        (λ (t : State) (n : List ℕ).
-        Joined rest (feedCall g font q m bs) (feedCall g font t n rest) (feedCall g font q m (bs ++ rest)))
-        (ap (λ (f : Feeding). f .answer .state) fed-runs ∙ run-state g font start bs)
+        (λ (t : StateRecord) (n : List ℕ). Joined rest (fedTo g font q m bs) (fedTo g font t n rest) (fedTo g font q m (bs ++ rest)))
+        (ap kept fed-runs ∙ run-kept g font start bs)
         (ap (λ (f : Feeding). f .mem) fed-runs ∙ run-mem g font start bs)
-        (pieces-joined g u font q m bs rest)
+        (pieces-joined g u font (q .state) (q .downloads) m bs rest)
 
     -- the same piece fed to the state as the calls have it
-    fed-called : (since : List Stroke) → accepted g (called g q since) ≡ true
-        → let f = feedCall g font q m bs in
-        feedCall g font (called g q since) m bs
-        ≡ feeding Accepted (called g (onwards g font q bs) (since ++ strokesOf g font q bs)) (f .answer .carried)
-        (f .answer .answered) (f .answer .outcome) (applyAll g m (strokesOf g font q bs))
+    fed-called : (since : List Stroke) → accepted g (called g q since) (q .downloads) ≡ true
+        → let f = fedTo g font q m bs in
+        let after = onwards g font q bs in
+        feedCall g font (called g q since) (q .downloads) m bs
+        ≡ feeding Accepted (called g after (since ++ strokesOf g font q bs)) (f .answer .carried)
+        (f .answer .answered) (f .answer .outcome) (applyAll g m (strokesOf g font q bs)) (after .downloads)
     fed-called since k =
         let r = called g q since in
-        let start = fedNothing Accepted q m in
         let grown = marks-append (noSpans g) since (strokesOf g font q bs) in
-        feed-runs g font r m bs (feed-taken g font r m l fonts k)
+        feed-runs g font r (q .downloads) m bs (feed-taken g font r (q .downloads) m l fonts k)
         ∙ run-same g font (markAll (noSpans g) since) start bs
         ∙ (λ i. let f = sym fed-runs i in
-        feeding (run-refusal g font start bs i) (withSpans (run-state g font start bs i) (sym grown i)) (f .answer .carried)
-        (f .answer .answered) (f .answer .outcome) (run-mem g font start bs i))
+        let t = run-kept g font start bs i in
+        feeding (run-refusal g font start bs i) (withSpans (t .state) (sym grown i)) (f .answer .carried)
+        (f .answer .answered) (f .answer .outcome) (run-mem g font start bs i) (t .downloads))
 
   -- THE INDUCTION: the calls keep up with the joined bytes
-  serves : (events : List Event) (q : State) (since : List Stroke) (m glass : List ℕ) → length m ≡ memoryLength g
-      → length glass ≡ glassLength g → accepted g q ≡ true → accepted g (called g q since) ≡ true
+  serves : (events : List Event) (q : StateRecord) (since : List Stroke) (m glass : List ℕ) → length m ≡ memoryLength g
+      → length glass ≡ glassLength g → Accepts g q → accepted g (called g q since) (q .downloads) ≡ true
       → Synced g m glass (markAll (noSpans g) since)
-      → Serves g font q since events (play g font (called g q since) m glass events) (feedCall g font q m (joined events))
+      → Serves g font q since events (play g font (called g q since) (q .downloads) m glass events) (fedTo g font q m (joined events))
   unfolding emptied
   serves [] q since m glass l z h k synced =
       rw (fed-runs q m [] l h)
@@ -193,6 +205,7 @@ module _ (g : Module) (u : Usable g) (font : List ℕ) (fonts : length font ≡ 
         carried = refl;
         answered = refl;
         state = refl;
+        downloads = refl;
         moved = refl;
         synced = synced;
         memory = l;
@@ -204,13 +217,13 @@ module _ (g : Module) (u : Usable g) (font : List ℕ) (fonts : length font ≡ 
       let q₁ = onwards g font q bs in
       let m₁ = applyAll g m ss in
       let ps = markAll (noSpans g) since in
-      let start = fedNothing Accepted q m in
-      let f = feedCall g font q m bs in
+      let f = fedTo g font q m bs in
       let both = fed-joined q m bs l h (joined es) in
       let fed = fed-called q m bs l h since k in
-      let h₁ = subst (λ (t : State). accepted g t ≡ true) (run-state g font start bs) (run-accepted g u font start bs h) in
+      let begins = start q m bs l h in
+      let h₁ = subst (λ (t : StateRecord). Accepts g t) (run-kept g font begins bs) (run-accepted g u font begins bs h) in
       let k₁ =
-      subst (λ (t : Feeding). accepted g (t .answer .state) ≡ true) fed (feed-keeps g u font (called g q since) m bs k) in
+      subst (λ (t : Feeding). Accepts g (kept t)) fed (feed-keeps g u font (called g q since) (q .downloads) m bs k) in
       let grown = strokes-synced g m glass ps ss (span-count g since) (glass-fits g u m l) synced in
       let rest =
       serves es q₁ (since ++ ss) m₁ glass (apply-length g m ss ∙ l) z h₁ k₁
@@ -222,6 +235,7 @@ module _ (g : Module) (u : Usable g) (font : List ℕ) (fonts : length font ≡ 
         carried = ap (λ (n : ℕ). f .answer .carried + n) (rest .carried) ∙ sym (both .carried);
         answered = ap (λ (n : ℕ). f .answer .answered + n) (rest .answered) ∙ sym (both .answered);
         state = rest .state ∙ ap (λ (t : State). withSpans t (spansSince g font q₁ (since ++ ss) es)) (sym (both .state));
+        downloads = rest .downloads ∙ sym (both .store);
         moved = rest .moved;
         synced = rest .synced;
         memory = rest .memory;
@@ -232,14 +246,15 @@ module _ (g : Module) (u : Usable g) (font : List ℕ) (fonts : length font ≡ 
       let ps = markAll (noSpans g) since in
       let rest =
       serves es q [] m (refreshed g m ps glass) l (refreshed-length g m ps glass ∙ z) h
-      (emptied-accepted g (called g q since) k) (refreshed-synced g m glass ps z synced (noSpans g)) in
-      rw (refresh-runs g (called g q since) m glass l z k)
+      (emptied-accepted g (called g q since) (q .downloads) k) (refreshed-synced g m glass ps z synced (noSpans g)) in
+      rw (refresh-runs g (called g q since) (q .downloads) m glass l z k)
       (record {
         refusals = ap (λ (rs : List Refusal). Accepted ∷ rs) (rest .refusals);
         mem = rest .mem;
         carried = rest .carried;
         answered = rest .answered;
         state = rest .state;
+        downloads = rest .downloads;
         moved = ap (λ (ns : List ℕ). shownAll g ps ∷ ns) (rest .moved);
         synced = rest .synced;
         memory = rest .memory;
@@ -249,49 +264,49 @@ module _ (g : Module) (u : Usable g) (font : List ℕ) (fonts : length font ≡ 
 
 -- ---- the demand
 
-module _ (g : Module) (u : Usable g) (font : List ℕ) (k back : ℕ) (v : Settings) (s : State) (m glass : List ℕ)
-    (i : InStep g font k back v s m glass) (events : List Event) where
+module _ (g : Module) (u : Usable g) (font : List ℕ) (k back : ℕ) (v : Settings) (s : State) (ds m glass : List ℕ)
+    (i : InStep g font k back v s ds m glass) (events : List Event) where
   abbrev one : Feeding
-  one = feedCall g font s m (joined events)
+  one = feedCall g font s ds m (joined events)
 
   abbrev since : List Span
-  since = spansSince g font s [] events
+  since = spansSince g font (stateRecord s ds) [] events
 
   -- the induction, begun with empty spans
-  begun : Serves g font s [] events (play g font s m glass events) one
+  begun : Serves g font (stateRecord s ds) [] events (play g font s ds m glass events) one
   begun =
       let h = i .holding .accepts in
       let empty : s ≡ withSpans s (noSpans g) = ap (λ (ps : List Span). withSpans s ps) (i .spans) in
       let size = ap length (i .shows) ∙ length-take-le (glassLength g) m (glass-fits g u m (i .memory)) in
-      subst (λ (t : State). Serves g font s [] events (play g font t m glass events) one) (sym empty)
-      (serves g u font (i .fonts) events s [] m glass (i .memory) size h (subst (λ (t : State). accepted g t ≡ true) empty h)
-      (shows-synced g m glass (noSpans g) (i .shows)))
+      subst (λ (t : State). Serves g font (stateRecord s ds) [] events (play g font t ds m glass events) one) (sym empty)
+      (serves g u font (i .fonts) events (stateRecord s ds) [] m glass (i .memory) size h
+      (subst (λ (t : State). accepted g t ds ≡ true) empty h) (shows-synced g m glass (noSpans g) (i .shows)))
 
   -- a refresh after the events is not refused, and copies what was written since the one before
-  next-refresh : let p = play g font s m glass events in
-      refreshCall g (p .state) (p .mem) (p .glass)
-      ≡ refreshing Accepted (emptied g (p .state)) (shownAll g since) (refreshed g (p .mem) since (p .glass))
+  next-refresh : let p = play g font s ds m glass events in
+      refreshCall g (p .state .state) (p .state .downloads) (p .mem) (p .glass)
+      ≡ refreshing Accepted (emptied g (p .state .state)) (shownAll g since) (refreshed g (p .mem) since (p .glass))
   next-refresh =
       let a = begun in
-      let p = play g font s m glass events in
-      refresh-runs g (p .state) (p .mem) (p .glass) (a .memory) (a .size) (a .accepts)
+      let p = play g font s ds m glass events in
+      refresh-runs g (p .state .state) (p .state .downloads) (p .mem) (p .glass) (a .memory) (a .size) (a .accepts)
       ∙ ap
       (λ (t : State).
-      refreshing Accepted (emptied g (p .state)) (shownAll g (t .spans)) (refreshed g (p .mem) (t .spans) (p .glass)))
+      refreshing Accepted (emptied g (p .state .state)) (shownAll g (t .spans)) (refreshed g (p .mem) (t .spans) (p .glass)))
       (a .state)
 
   -- such a refresh, with any events after it
   refreshed-at : (after : List Event)
-      → let p = play g font s m glass events in
-      let r = refreshCall g (p .state) (p .mem) (p .glass) in
+      → let p = play g font s ds m glass events in
+      let r = refreshCall g (p .state .state) (p .state .downloads) (p .mem) (p .glass) in
       RefreshedAt g since p (r .answer .refusal) (r .answer .moved) (r .glass)
-      (play g font (r .answer .state) (p .mem) (r .glass) after)
-      (play g font s m glass (events ++ refresh ∷ after))
+      (play g font (r .answer .state) (p .state .downloads) (p .mem) (r .glass) after)
+      (play g font s ds m glass (events ++ refresh ∷ after))
   refreshed-at after =
-      let p = play g font s m glass events in
+      let p = play g font s ds m glass events in
       let size = begun .size in
       record {
-        place = passes g font events (refresh ∷ after) s m glass;
+        place = passes g font events (refresh ∷ after) s ds m glass;
         only =
             rw next-refresh
             (record {
@@ -303,19 +318,19 @@ module _ (g : Module) (u : Usable g) (font : List ℕ) (k back : ℕ) (v : Setti
             });
         number =
             ap (λ (r : Refreshing). r .answer .moved) next-refresh
-            ∙ sym (spanned-shown g since (since-count g font events s []));
+            ∙ sym (spanned-shown g since (since-count g font events (stateRecord s ds) []));
         sum = ap (λ (r : Refreshing). r .answer .moved) next-refresh;
       }
 
-module _ (g : Module) (u : Usable g) (font : List ℕ) (k back : ℕ) (v : Settings) (s : State) (m glass : List ℕ)
-    (i : InStep g font k back v s m glass) where
+module _ (g : Module) (u : Usable g) (font : List ℕ) (k back : ℕ) (v : Settings) (s : State) (ds m glass : List ℕ)
+    (i : InStep g font k back v s ds m glass) where
   pub served : (events : List Event)
-      → Served g font k back v s m glass events (play g font s m glass events) (feedCall g font s m (joined events))
-      (play g font s m glass (events ++ refresh ∷ []))
+      → Served g font k back v s ds m glass events (play g font s ds m glass events) (feedCall g font s ds m (joined events))
+      (play g font s ds m glass (events ++ refresh ∷ []))
   served events =
-      let a = begun g u font k back v s m glass i events in
-      let p = play g font s m glass events in
-      let since = spansSince g font s [] events in
+      let a = begun g u font k back v s ds m glass i events in
+      let p = play g font s ds m glass events in
+      let since = spansSince g font (stateRecord s ds) [] events in
       record {
         refusals = a .refusals;
         mem = a .mem;
@@ -323,50 +338,51 @@ module _ (g : Module) (u : Usable g) (font : List ℕ) (k back : ℕ) (v : Setti
         answered = a .answered;
         state = a .state;
         outside =
-            subst (OnlyInside g k s m) (sym (a .mem)) (feed-outside g u font k back v s m (joined events) (i .holding .held));
+            subst (OnlyInside g k s m) (sym (a .mem)) (feed-outside g u font k back v s ds m (joined events) (i .holding .held));
         guest =
             subst (Guest k back v s) (sym (a .state))
-            (guest-spans k back v s _ since (feed-guest g u font k back v s m (joined events) (i .holding)));
+            (guest-spans k back v s _ since (feed-guest g u font k back v s ds m (joined events) (i .holding)));
+        downloads = a .downloads ∙ feed-downloads g u font k back v s ds m (joined events) (i .holding .held);
         shows =
-            ap (λ (q : Play State Refusal). q .glass) (passes g font events (refresh ∷ []) s m glass)
-            ∙ ap (λ (r : Refreshing). r .glass) (next-refresh g u font k back v s m glass i events)
+            ap (λ (q : Play StateRecord Refusal). q .glass) (passes g font events (refresh ∷ []) s ds m glass)
+            ∙ ap (λ (r : Refreshing). r .glass) (next-refresh g u font k back v s ds m glass i events)
             ∙ refreshed-shows g (p .mem) (p .glass) since (a .size) (a .synced) (glass-fits g u (p .mem) (a .memory));
-        each = λ before after e. rw e (refreshed-at g u font k back v s m glass i before after);
+        each = λ before after e. rw e (refreshed-at g u font k back v s ds m glass i before after);
         moved = a .moved;
-        most = λ n. rw (a .moved) (owed-most g font events s [] n);
+        most = λ n. rw (a .moved) (owed-most g font events (stateRecord s ds) [] n);
       }
 
 -- ---- how it is begun
 
 -- a feed, refused or not, keeps a glass in step that shows memory wherever no span is
-pub feed-in-step : (g : Module) → Usable g → (font : List ℕ) (s : State) (m glass bytes : List ℕ) → Sized g s
+pub feed-in-step : (g : Module) → Usable g → (font : List ℕ) (s : State) (ds m glass bytes : List ℕ) → Sized g s
     → Synced g m glass (s .spans)
-    → let f = feedCall g font s m bytes in Synced g (f .mem) glass (f .answer .state .spans)
+    → let f = feedCall g font s ds m bytes in Synced g (f .mem) glass (f .answer .state .spans)
 unfolding feedCall
-feed-in-step g u font s m glass bytes sized synced =
-    by-cond (λ (f : Feeding). Synced g (f .mem) glass (f .answer .state .spans)) (isAccepted (feedRefusal g font s m))
+feed-in-step g u font s ds m glass bytes sized synced =
+    by-cond (λ (f : Feeding). Synced g (f .mem) glass (f .answer .state .spans)) (isAccepted (feedRefusal g font s ds m))
     (λ e.
-    let start = fedNothing Accepted s m in
-    subst₂ (λ (n : List ℕ) (ps : List Span). Synced g n glass ps) (sym (run-mem g font start bytes))
-    (sym (run-spans g font start bytes))
-    (strokes-synced g m glass (s .spans) (strokesOf g font s bytes) (sized .spans)
-    (glass-fits g u m (feed-given g font s m e .0)) synced))
+    let begins = fedNothing Accepted s ds m in
+    subst₂ (λ (n : List ℕ) (ps : List Span). Synced g n glass ps) (sym (run-mem g font begins bytes))
+    (sym (run-spans g font begins bytes))
+    (strokes-synced g m glass (s .spans) (strokesOf g font (stateRecord s ds) bytes) (sized .spans)
+    (glass-fits g u m (feed-given g font s ds m e .0)) synced))
     (λ _. synced)
 
 -- a hold that is not refused, and then a refresh
-pub holds-in-step : (g : Module) → Usable g → (font : List ℕ) (s : State) (k : ℕ) (m glass : List ℕ)
+pub holds-in-step : (g : Module) → Usable g → (font : List ℕ) (s : State) (ds : List ℕ) (k : ℕ) (m glass : List ℕ)
     → length font ≡ fontLength g → length m ≡ memoryLength g → length glass ≡ glassLength g → Synced g m glass (s .spans)
-    → holdNumber g s k ≡ 0
-    → let r = refreshCall g (holdCall g s k .state) m glass in
-    InStep g font k (s .selected) (s .settings) (r .answer .state) m (r .glass)
+    → holdNumber g s ds k ≡ 0
+    → let r = refreshCall g (holdCall g s ds k .state) ds m glass in
+    InStep g font k (s .selected) (s .settings) (r .answer .state) ds m (r .glass)
 unfolding heldBy emptied
-holds-in-step g u font s k m glass fonts l z synced n =
-    let a = hold-answers g s k in
+holds-in-step g u font s ds k m glass fonts l z synced n =
+    let a = hold-answers g s ds k in
     let f = a .number-0 .0 n in
-    let h = held-accepted g s (f .0) k (f .1 .1 .0) (f .1 .1 .1) in
-    rw (a .taken n, refresh-runs g (heldBy s k) m glass l z h)
+    let h = held-accepted g s ds (f .0) k (f .1 .1 .0) (f .1 .1 .1) in
+    rw (a .taken n, refresh-runs g (heldBy s k) ds m glass l z h)
     (record {
-      holding = record { accepts = emptied-accepted g (heldBy s k) h; held = refl };
+      holding = record { accepts = emptied-accepted g (heldBy s k) ds h; held = refl };
       spans = refl;
       shows = refreshed-shows g m glass (s .spans) z synced (glass-fits g u m l);
       memory = l;

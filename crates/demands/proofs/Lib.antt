@@ -1,6 +1,7 @@
 pub mod Rows
 pub mod Calls
 pub mod Outcomes
+pub mod Defines
 pub mod Feeds
 pub mod Unseen
 pub mod Counts

@@ -1,30 +1,32 @@
 -- No rule looks at the spans: from a state with other spans every byte means the same, and a run writes the same. So a refresh
 -- between two pieces shows in nothing but the spans. Assumes nothing.
-use mathlib.Core.Path.{_≡_, refl, sym, ap, _∙_}
+use mathlib.Core.Path.{_≡_, refl, sym, ap, ap₂, _∙_}
 use mathlib.Core.Bool.{Bool, true, false, cond, _&&_}
 use mathlib.Core.List.{List, [], _∷_}
 use Prim.Native.Nat.{ℕ}
-use lib.Dec.{eqb}
+use lib.Dec.{ltb, eqb}
 use Rattle.paper.specs.declared.Module.{Module}
 use Rattle.paper.specs.declared.Cursor.{Cursor}
 use Rattle.paper.specs.declared.Span.{Span}
 use Rattle.paper.specs.declared.Half.the-variants.{Nothing}
 use Rattle.paper.specs.declared.Command.{Command}
-use Rattle.paper.specs.declared.Command.the-variants.{Character, Back, Tab, LineFeed, Home, Clear, Return, Select, Initialise, Mode, Set, Enlarge, CursorSet, Define, Cancel, Uncarried}
+use Rattle.paper.specs.declared.Command.the-variants.{Character, Back, Tab, LineFeed, Home, Clear, Return, Select, Initialise, Mode, Set, Enlarge, CursorSet, Define, Cancel, Uncarried, Erase}
 use Rattle.paper.specs.declared.Reading.{Reading}
-use Rattle.paper.specs.declared.Reading.the-variants.{More, Whole, ImageByte, ImageEnd, Cancels, UnknownCode}
+use Rattle.paper.specs.declared.Reading.the-variants.{More, Whole, ImageByte, ImageEnd, GlyphEnd, Cancels, UnknownCode}
 use Rattle.paper.specs.declared.Outcome.{Outcome}
-use Rattle.paper.specs.declared.Outcome.the-variants.{Carried, OutOfDomain, NotCarried, WindowHeld, TooLarge, NotDefined}
+use Rattle.paper.specs.declared.Outcome.the-variants.{Carried, OutOfDomain, NotCarried, WindowHeld, TooLarge, NotDefined, NotStored}
 use Rattle.paper.specs.declared.State.{State}
+use Rattle.paper.specs.Numbers.{isCarried}
+use Rattle.paper.specs.Downloads.{Faces, inForce}
 use Rattle.paper.specs.Strokes.{applyAll, markAll}
 use Rattle.paper.specs.Reading.{readOf}
 use Rattle.paper.specs.Settings.{withHalf, withSpans, cancelled, cursorOf, atCursor, inMode, insideWindow, viewOf, cursorIn}
 use Rattle.paper.specs.Moves.{Moved, htOf, characterOf, lineFeedOf, clearOf}
-use Rattle.paper.specs.Carry.{Meaning, means, moves, becomes, isHeld, askedOf, widthNow, heightNow, carriedOut, answers, commandOf, imageStrokes, takeOf, byteMeans}
-use Rattle.paper.specs.Calls.{Feeding, feeding, settled, counted, next, run}
+use Rattle.paper.specs.Carry.{Meaning, means, moves, becomes, isHeld, askedOf, widthNow, heightNow, carriedOut, answers, commandOf, imageStrokes, glyphEnds, takeOf, byteMeans, leaves, commandStore, takeStore, byteStore}
+use Rattle.paper.specs.Calls.{Feeding, feeding, counted, facesNow, next, run}
 use Rattle.laws_memory.proofs.Strokes.{apply-append}
 use Rattle.laws_memory.proofs.Spans.{marks-append}
-use Rattle.demands.specs.Events.{onwards, strokesOf}
+use Rattle.demands.specs.Events.{StateRecord, stateRecord, meant, after, onwards, strokesOf}
 
 -- ---- one byte
 
@@ -60,9 +62,9 @@ module _ (ps : List Span) (s : State) where
 
   module _ (g : Module) where
     -- what a command is asked
-    asked-same : (c : Command) → askedOf g (withSpans s ps) c ≡ askedOf g s c
+    asked-same : (ds : List ℕ) (c : Command) → askedOf g ds (withSpans s ps) c ≡ askedOf g ds s c
     unfolding insideWindow viewOf
-    asked-same c = refl
+    asked-same ds c = refl
 
     -- a move of the range
     moved-same : (t : Moved) → moves (withSpans s ps) t ≡ respan ps (moves s t)
@@ -70,10 +72,10 @@ module _ (ps : List Span) (s : State) where
     moved-same t = ap (λ (q : State). means q Carried (t .strokes)) (at-same _)
 
     -- every command that is carried out
-    carried-same : (font : List ℕ) (c : Command) → carriedOut g font (withSpans s ps) c ≡ respan ps (carriedOut g font s c)
+    carried-same : (font : Faces) (c : Command) → carriedOut g font (withSpans s ps) c ≡ respan ps (carriedOut g font s c)
     unfolding carriedOut viewOf cursorIn cursorOf inMode respan
     carried-same font (Character b) =
-        moved-same (characterOf g font (s .settings .width) (s .settings .style) b (viewOf g s))
+        moved-same (characterOf g (inForce (s .settings .switch) font) (s .settings .width) (s .settings .style) b (viewOf g s))
     carried-same font Back = placed-same _
     carried-same font Tab = moved-same (htOf g (viewOf g s) (widthNow g s) (heightNow s))
     carried-same font LineFeed = moved-same (lineFeedOf g (viewOf g s) (heightNow s))
@@ -89,26 +91,36 @@ module _ (ps : List Span) (s : State) where
     carried-same font (Define a left top width height) = refl
     carried-same font (Cancel a) = ap (λ (q : State). becomes q) (cancelled-same a)
     carried-same font Uncarried = refl
+    carried-same font (Erase a code) = refl
 
     -- every command
-    command-same : (font : List ℕ) (c : Command) → commandOf g font (withSpans s ps) c ≡ respan ps (commandOf g font s c)
+    command-same : (font : Faces) (c : Command) → commandOf g font (withSpans s ps) c ≡ respan ps (commandOf g font s c)
     unfolding commandOf
     command-same font c =
-        rw (asked-same c, carried-same font c)
-        (same-cond (respan ps) (askedOf g s c .notCarried) (answered-same NotCarried)
-        (same-cond (respan ps) (askedOf g s c .ownersOnly && isHeld (s .hold)) (answered-same WindowHeld)
-        (same-cond (respan ps) (askedOf g s c .outOfDomain) (answered-same OutOfDomain)
-        (same-cond (respan ps) (askedOf g s c .notDefined) (answered-same NotDefined)
-        (same-cond (respan ps) (askedOf g s c .tooLarge) (answered-same TooLarge) refl)))))
+        let a = askedOf g (font .store) s c in
+        rw (asked-same (font .store) c, carried-same font c)
+        (same-cond (respan ps) (a .notCarried) (answered-same NotCarried)
+        (same-cond (respan ps) (a .ownersOnly && isHeld (s .hold)) (answered-same WindowHeld)
+        (same-cond (respan ps) (a .outOfDomain) (answered-same OutOfDomain)
+        (same-cond (respan ps) (a .notDefined) (answered-same NotDefined)
+        (same-cond (respan ps) (a .tooLarge) (answered-same TooLarge)
+        (same-cond (respan ps) (a .notStored) (answered-same NotStored) refl))))))
 
-module _ (g : Module) (font : List ℕ) (ps : List Span) (s : State) where
+    -- and the downloads that it leaves
+    command-store-same : (font : Faces) (c : Command) → commandStore g font (withSpans s ps) c ≡ commandStore g font s c
+    unfolding commandStore respan
+    command-store-same font c =
+        ap (λ (t : Meaning). cond (isCarried (t .outcome)) (leaves c (font .store)) (font .store)) (command-same font c)
+
+module _ (g : Module) (font : Faces) (ps : List Span) (s : State) where
   -- whatever is read
   reading-same : (r : Reading) → takeOf g font (withSpans s ps) r ≡ respan ps (takeOf g font s r)
-  unfolding takeOf viewOf imageStrokes respan
+  unfolding takeOf glyphEnds viewOf imageStrokes respan
   reading-same (More p) = refl
   reading-same (Whole c) = command-same ps (withHalf s Nothing) g font c
   reading-same (ImageByte column row b next) = refl
   reading-same (ImageEnd column row b) = refl
+  reading-same (GlyphEnd d c) = same-cond (respan ps) (ltb (d .code) (d .last)) refl refl
   reading-same Cancels = refl
   reading-same UnknownCode = refl
 
@@ -117,47 +129,67 @@ module _ (g : Module) (font : List ℕ) (ps : List Span) (s : State) where
   unfolding byteMeans
   byte-same b = reading-same (readOf g (s .half) b)
 
+  -- and the same downloads
+  reading-store-same : (r : Reading) → takeStore g font (withSpans s ps) r ≡ takeStore g font s r
+  unfolding takeStore
+  reading-store-same (More p) = refl
+  reading-store-same (Whole c) = command-store-same ps (withHalf s Nothing) g font c
+  reading-store-same (ImageByte column row b next) = refl
+  reading-store-same (ImageEnd column row b) = refl
+  reading-store-same (GlyphEnd d c) = refl
+  reading-store-same Cancels = refl
+  reading-store-same UnknownCode = refl
+
+  pub byte-store-same : (b : ℕ) → byteStore g font (withSpans s ps) b ≡ byteStore g font s b
+  unfolding byteStore
+  byte-store-same b = reading-store-same (readOf g (s .half) b)
+
 -- ---- a piece
 
 -- a feed with other spans
 abbrev pub refed : List Span → Feeding → Feeding
 refed ps f =
     feeding (f .answer .refusal) (withSpans (f .answer .state) ps) (f .answer .carried) (f .answer .answered)
-    (f .answer .outcome) (f .mem)
+    (f .answer .outcome) (f .mem) (f .store)
+
+-- the state record that a feed has come to
+abbrev pub kept : Feeding → StateRecord
+kept f = stateRecord (f .answer .state) (f .store)
 
 module _ (g : Module) (font : List ℕ) where
   -- a byte more: the spans grow by what it writes, and no more can be told
   next-same : (ps : List Span) (f : Feeding) (b : ℕ)
-      → next g font (refed ps f) b ≡ refed (markAll ps (byteMeans g font (f .answer .state) b .strokes)) (next g font f b)
+      → next g font (refed ps f) b ≡ refed (markAll ps (meant g font (kept f) b .strokes)) (next g font f b)
   unfolding next respan
-  next-same ps f b = ap (λ (t : Meaning). counted g (refed ps f) t) (byte-same g font ps (f .answer .state) b)
+  next-same ps f b =
+      ap₂ (counted g (refed ps f)) (byte-same g (facesNow font f) ps (f .answer .state) b)
+      (byte-store-same g (facesNow font f) ps (f .answer .state) b)
 
   -- a run from other spans is the run, and the spans have grown by what it writes
   pub run-same : (ps : List Span) (f : Feeding) (bs : List ℕ)
-      → run g font (refed ps f) bs ≡ refed (markAll ps (strokesOf g font (f .answer .state) bs)) (run g font f bs)
+      → run g font (refed ps f) bs ≡ refed (markAll ps (strokesOf g font (kept f) bs)) (run g font f bs)
   unfolding next
   run-same ps f [] = refl
   run-same ps f (b ∷ bs) =
-      let t = byteMeans g font (f .answer .state) b in
-      let rest = strokesOf g font (settled t) bs in
+      let t = meant g font (kept f) b in
+      let rest = strokesOf g font (after g font (kept f) b) bs in
       ap (λ (q : Feeding). run g font q bs) (next-same ps f b)
       ∙ run-same (markAll ps (t .strokes)) (next g font f b) bs
       ∙ ap (λ (qs : List Span). refed qs (run g font (next g font f b) bs)) (sym (marks-append ps (t .strokes) rest))
 
   -- where a run ends, and what it has written
-  pub run-state : (f : Feeding) (bs : List ℕ) → run g font f bs .answer .state ≡ onwards g font (f .answer .state) bs
+  pub run-kept : (f : Feeding) (bs : List ℕ) → kept (run g font f bs) ≡ onwards g font (kept f) bs
   unfolding next
-  run-state f [] = refl
-  run-state f (b ∷ bs) = run-state (next g font f b) bs
+  run-kept f [] = refl
+  run-kept f (b ∷ bs) = run-kept (next g font f b) bs
 
-  pub run-mem : (f : Feeding) (bs : List ℕ)
-      → run g font f bs .mem ≡ applyAll g (f .mem) (strokesOf g font (f .answer .state) bs)
+  pub run-mem : (f : Feeding) (bs : List ℕ) → run g font f bs .mem ≡ applyAll g (f .mem) (strokesOf g font (kept f) bs)
   unfolding next
   run-mem f [] = refl
   run-mem f (b ∷ bs) =
-      let t = byteMeans g font (f .answer .state) b in
-      run-mem (next g font f b) bs ∙ sym (apply-append g (f .mem) (t .strokes) (strokesOf g font (settled t) bs))
+      let t = meant g font (kept f) b in
+      run-mem (next g font f b) bs ∙ sym (apply-append g (f .mem) (t .strokes) (strokesOf g font (after g font (kept f) b) bs))
 
   pub run-spans : (f : Feeding) (bs : List ℕ)
-      → run g font f bs .answer .state .spans ≡ markAll (f .answer .state .spans) (strokesOf g font (f .answer .state) bs)
+      → run g font f bs .answer .state .spans ≡ markAll (f .answer .state .spans) (strokesOf g font (kept f) bs)
   run-spans f bs = ap (λ (q : Feeding). q .answer .state .spans) (run-same (f .answer .state .spans) f bs)

@@ -8,8 +8,9 @@ use Rattle.paper.specs.declared.Span.{Span}
 use Rattle.paper.specs.declared.Refusal.{Refusal}
 use Rattle.paper.specs.declared.State.{State}
 use Rattle.paper.specs.Panel.{glassLength}
+use Rattle.paper.specs.Downloads.{faces}
 use Rattle.paper.specs.Strokes.{Stroke, noSpans, markAll, shownAll}
-use Rattle.paper.specs.Carry.{byteMeans}
+use Rattle.paper.specs.Carry.{Meaning, byteMeans, byteStore}
 use Rattle.paper.specs.Calls.{settled, feedCall, refreshCall}
 
 -- "any bytes, cut anywhere, with refreshes anywhere between"
@@ -80,41 +81,59 @@ module _ {S A : Type 0} where
         answers = p .answers ++ q .answers;
       }
 
+-- ---- the calls
+
+-- the state record: a state with its downloads
+pub record StateRecord : Type 0 where
+  pub state : State
+  pub downloads : List ℕ
+
+abbrev pub stateRecord : State → List ℕ → StateRecord
+stateRecord s ds = record { state = s; downloads = ds }
+
 -- each piece is fed and each refresh made, on what the one before left
-abbrev pub play : Module → List ℕ → State → List ℕ → List ℕ → List Event → Play State Refusal
-play g font s m glass [] = resting s m glass
-play g font s m glass (piece bs ∷ es) =
-    let f = feedCall g font s m bs in
-    fedThen (f .answer .refusal) (f .answer .carried) (f .answer .answered) (play g font (f .answer .state) (f .mem) glass es)
-play g font s m glass (refresh ∷ es) =
-    let r = refreshCall g s m glass in
-    refreshedThen (r .answer .refusal) (r .answer .moved) (play g font (r .answer .state) m (r .glass) es)
+abbrev pub play : Module → List ℕ → State → List ℕ → List ℕ → List ℕ → List Event → Play StateRecord Refusal
+play g font s ds m glass [] = resting (stateRecord s ds) m glass
+play g font s ds m glass (piece bs ∷ es) =
+    let f = feedCall g font s ds m bs in
+    fedThen (f .answer .refusal) (f .answer .carried) (f .answer .answered)
+    (play g font (f .answer .state) (f .store) (f .mem) glass es)
+play g font s ds m glass (refresh ∷ es) =
+    let r = refreshCall g s ds m glass in
+    refreshedThen (r .answer .refusal) (r .answer .moved) (play g font (r .answer .state) ds m (r .glass) es)
 
 -- ---- what document 01 has written at each refresh
 
--- the state that bytes lead to, by their meaning
-abbrev pub onwards : Module → List ℕ → State → List ℕ → State
-onwards g font s [] = s
-onwards g font s (b ∷ bs) = onwards g font (settled (byteMeans g font s b)) bs
+-- what a byte means to a state record, and what it leaves
+abbrev pub meant : Module → List ℕ → StateRecord → ℕ → Meaning
+meant g font q b = byteMeans g (faces font (q .downloads)) (q .state) b
+
+abbrev pub after : Module → List ℕ → StateRecord → ℕ → StateRecord
+after g font q b = stateRecord (settled (meant g font q b)) (byteStore g (faces font (q .downloads)) (q .state) b)
+
+-- the state record that bytes lead to, by their meaning
+abbrev pub onwards : Module → List ℕ → StateRecord → List ℕ → StateRecord
+onwards g font q [] = q
+onwards g font q (b ∷ bs) = onwards g font (after g font q b) bs
 
 -- all that bytes write, in order
-abbrev pub strokesOf : Module → List ℕ → State → List ℕ → List Stroke
-strokesOf g font s [] = []
-strokesOf g font s (b ∷ bs) = byteMeans g font s b .strokes ++ strokesOf g font (settled (byteMeans g font s b)) bs
+abbrev pub strokesOf : Module → List ℕ → StateRecord → List ℕ → List Stroke
+strokesOf g font q [] = []
+strokesOf g font q (b ∷ bs) = meant g font q b .strokes ++ strokesOf g font (after g font q b) bs
 
 -- the spans of what was written since the last refresh, `since` being what was written before these events. The state goes on
 -- as the joined bytes take it: no refresh changes it
-abbrev pub spansSince : Module → List ℕ → State → List Stroke → List Event → List Span
-spansSince g font s since [] = markAll (noSpans g) since
-spansSince g font s since (piece bs ∷ es) =
-    spansSince g font (onwards g font s bs) (since ++ strokesOf g font s bs) es
-spansSince g font s since (refresh ∷ es) = spansSince g font s [] es
+abbrev pub spansSince : Module → List ℕ → StateRecord → List Stroke → List Event → List Span
+spansSince g font q since [] = markAll (noSpans g) since
+spansSince g font q since (piece bs ∷ es) =
+    spansSince g font (onwards g font q bs) (since ++ strokesOf g font q bs) es
+spansSince g font q since (refresh ∷ es) = spansSince g font q [] es
 
 -- "the sum of the visible span lengths", for each refresh, of what was written since the one before
-abbrev pub owed : Module → List ℕ → State → List Stroke → List Event → List ℕ
-owed g font s since [] = []
-owed g font s since (piece bs ∷ es) = owed g font (onwards g font s bs) (since ++ strokesOf g font s bs) es
-owed g font s since (refresh ∷ es) = shownAll g (markAll (noSpans g) since) ∷ owed g font s [] es
+abbrev pub owed : Module → List ℕ → StateRecord → List Stroke → List Event → List ℕ
+owed g font q since [] = []
+owed g font q since (piece bs ∷ es) = owed g font (onwards g font q bs) (since ++ strokesOf g font q bs) es
+owed g font q since (refresh ∷ es) = shownAll g (markAll (noSpans g) since) ∷ owed g font q [] es
 
 -- "the visible memory": columns 0 to 111 are its first bytes
 abbrev pub visible : Module → List ℕ → List ℕ

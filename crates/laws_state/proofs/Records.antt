@@ -55,7 +55,7 @@ unfolding defineOk isHeld
 define-outside ds Free p f = f refl
 define-outside ds (Held k back v) p f = refl
 
-outside-define : (ds : List ℕ) (h : Hold) (p : Half) → defineOk ds h p ≡ true → isHeld h ≡ false → halfNoteOk ds p ≡ true
+pub outside-define : (ds : List ℕ) (h : Hold) (p : Half) → defineOk ds h p ≡ true → isHeld h ≡ false → halfNoteOk ds p ≡ true
 unfolding defineOk isHeld
 outside-define ds Free p e n = e
 outside-define ds (Held k back v) p e n = absurd (true≢false n)
