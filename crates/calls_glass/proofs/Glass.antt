@@ -12,6 +12,7 @@ use Rattle.paper.specs.declared.Refusal.the-variants.{Accepted, MemoryLength, G
 use Rattle.paper.specs.declared.Span.{Span}
 use Rattle.paper.specs.declared.State.{State}
 use Rattle.paper.specs.Panel.{memoryLength, glassLength}
+use Rattle.paper.specs.Downloads.{allErased}
 use Rattle.paper.specs.Strokes.{markRect, refreshed, shownAll}
 use Rattle.paper.specs.Settings.{initialState, withSpans}
 use Rattle.paper.specs.Bounds.{accepted}
@@ -23,42 +24,42 @@ use Rattle.laws_state.specs.Room.{Usable}
 use Rattle.laws_state.specs.Told.{started}
 
 -- a memory of the wrong length is handed back as it was, with the initial state
-pub start-refused : (g : Module) (m : List ℕ) (s : State) → (length m ≡ memoryLength g → ⊥) → s ≡ initialState g
-    → started (answer MemoryLength s) m ≡ startCall g m
+pub start-refused : (g : Module) (m ds ds′ : List ℕ) (s : State) → (length m ≡ memoryLength g → ⊥) → s ≡ initialState g → ds′ ≡ allErased ds
+    → started (answer MemoryLength s) m ds′ ≡ startCall g m ds
 unfolding startCall startRefusal isAccepted refusalNumber
-start-refused g m s h e = rw (ne-eqb (length m) (memoryLength g) h, e)
+start-refused g m ds ds′ s h e d = rw (ne-eqb (length m) (memoryLength g) h, e, d)
 
 -- a memory of the right length is zeroed, and all of it is marked
-pub start-accepted : (g : Module) (m m′ : List ℕ) (t : State) (ps : List Span) → length m ≡ memoryLength g → t ≡ initialState g
-    → ps ≡ markRect (memoryRect g) (t .spans) → m′ ≡ cleared g (memoryRect g) m
-    → started (answer Accepted (withSpans t ps)) m′ ≡ startCall g m
+pub start-accepted : (g : Module) (m m′ ds ds′ : List ℕ) (t : State) (ps : List Span) → length m ≡ memoryLength g → t ≡ initialState g
+    → ps ≡ markRect (memoryRect g) (t .spans) → m′ ≡ cleared g (memoryRect g) m → ds′ ≡ allErased ds
+    → started (answer Accepted (withSpans t ps)) m′ ds′ ≡ startCall g m ds
 unfolding startCall startRefusal isAccepted refusalNumber cleared
-start-accepted g m m′ t ps l e k c =
-    rw (eq-eqb (length m) (memoryLength g) l)
-    (ap₂ (λ (s : State) (x : List ℕ). started (answer Accepted s) x)
+start-accepted g m m′ ds ds′ t ps l e k c d =
+    rw (eq-eqb (length m) (memoryLength g) l, d)
+    (ap₂ (λ (s : State) (x : List ℕ). started (answer Accepted s) x (allErased ds))
     (ap₂ (λ (s : State) (qs : List Span). withSpans s qs) e
     (k ∙ ap (λ (s : State). markRect (memoryRect g) (s .spans)) e)) c)
 
-module _ (g : Module) (s : State) (m glass : List ℕ) where
+module _ (g : Module) (s : State) (ds m glass : List ℕ) where
   -- 1
-  pub refresh-memory : (length m ≡ memoryLength g → ⊥) → refreshing MemoryLength s 0 glass ≡ refreshCall g s m glass
+  pub refresh-memory : (length m ≡ memoryLength g → ⊥) → refreshing MemoryLength s 0 glass ≡ refreshCall g s ds m glass
   unfolding refreshCall refreshRefusal isAccepted refusalNumber
   refresh-memory h = rw (ne-eqb (length m) (memoryLength g) h)
 
   -- 3
-  pub refresh-glass : length m ≡ memoryLength g → (length glass ≡ glassLength g → ⊥) → refreshing GlassLength s 0 glass ≡ refreshCall g s m glass
+  pub refresh-glass : length m ≡ memoryLength g → (length glass ≡ glassLength g → ⊥) → refreshing GlassLength s 0 glass ≡ refreshCall g s ds m glass
   unfolding refreshCall refreshRefusal isAccepted refusalNumber
   refresh-glass l h = rw (eq-eqb (length m) (memoryLength g) l, ne-eqb (length glass) (glassLength g) h)
 
   -- 8
-  pub refresh-broken : length m ≡ memoryLength g → length glass ≡ glassLength g → accepted g s ≡ false
-      → refreshing BrokenState s 0 glass ≡ refreshCall g s m glass
+  pub refresh-broken : length m ≡ memoryLength g → length glass ≡ glassLength g → accepted g s ds ≡ false
+      → refreshing BrokenState s 0 glass ≡ refreshCall g s ds m glass
   unfolding refreshCall refreshRefusal isAccepted refusalNumber
   refresh-broken l h a = rw (eq-eqb (length m) (memoryLength g) l, eq-eqb (length glass) (glassLength g) h, a)
 
   -- none of these
-  pub refresh-accepted : length m ≡ memoryLength g → length glass ≡ glassLength g → accepted g s ≡ true
-      → refreshing Accepted (emptied g s) (shownAll g (s .spans)) (refreshed g m (s .spans) glass) ≡ refreshCall g s m glass
+  pub refresh-accepted : length m ≡ memoryLength g → length glass ≡ glassLength g → accepted g s ds ≡ true
+      → refreshing Accepted (emptied g s) (shownAll g (s .spans)) (refreshed g m (s .spans) glass) ≡ refreshCall g s ds m glass
   unfolding refreshCall refreshRefusal isAccepted refusalNumber
   refresh-accepted l h a = rw (eq-eqb (length m) (memoryLength g) l, eq-eqb (length glass) (glassLength g) h, a)
 

@@ -6,15 +6,15 @@ use Rattle.paper.specs.declared.Module.{Module}
 use Rattle.paper.specs.declared.Style.{Style}
 use Rattle.paper.specs.declared.View.{View}
 use Rattle.paper.specs.Strokes.{applied}
-use Rattle.paper.specs.Cells.{cellWidth, cellHeight, partOf, drawStroke, blankStroke, imageStroke}
-use Rattle.cells.specs.Drawn.{drawn, blanked, imaged}
+use Rattle.paper.specs.Cells.{cellWidth, cellHeight, partOf, glyphStroke, blankStroke, imageStroke}
+use Rattle.cells.specs.Drawn.{drawnAs, drawn, blanked, imaged}
 
 module _ (g : Module) (m : List ℕ) (y : Style) (v : View) where
-  -- the cell of a code at the cursor
-  pub drawn-stroke : (font : List ℕ) (w code : ℕ)
-      → drawn g font code w y (partOf v (cellWidth g w y) (cellHeight y)) m ≡ applied g m (drawStroke g font w y code v)
-  unfolding drawn
-  drawn-stroke font w code = refl
+  -- the cell of a glyph at the cursor
+  pub drawn-stroke : (cols : List ℕ) (w : ℕ)
+      → drawn g cols w y (partOf v (cellWidth g w y) (cellHeight y)) m ≡ applied g m (glyphStroke g cols w y v)
+  unfolding drawnAs
+  drawn-stroke cols w = refl
 
   -- the all-off cell of a wrap
   pub blanked-stroke : (w : ℕ) → blanked g y (partOf v (cellWidth g w y) (cellHeight y)) m ≡ applied g m (blankStroke g w y v)

@@ -1,10 +1,11 @@
 -- What the public functions make of the memory: each a name for an expression of the paper. Assumes nothing.
+use mathlib.Core.Bool.{Bool}
 use mathlib.Core.List.{List}
 use Prim.Native.Nat.{ℕ, _+_, _*_}
 use Rattle.paper.specs.declared.Module.{Module}
 use Rattle.paper.specs.declared.Rect.{Rect}
 use Rattle.paper.specs.declared.Style.{Style}
-use Rattle.paper.specs.Panel.{dot}
+use Rattle.paper.specs.Panel.{dot, isFramed}
 use Rattle.paper.specs.Strokes.{rectAt, rectMap}
 use Rattle.paper.specs.Cells.{Dots, cellDot, allOff, enlargedDots, penned}
 
@@ -12,9 +13,13 @@ use Rattle.paper.specs.Cells.{Dots, cellDot, allOff, enlargedDots, penned}
 abbrev pub cellMap : Module → Style → Dots → Rect → List ℕ → List ℕ
 cellMap g y d q m = rectMap g q (λ j r b. penned y (λ i. enlargedDots y d j (8 * r + i)) b) m
 
--- the cell of a code
-unfoldable pub drawn : Module → List ℕ → ℕ → ℕ → Style → Rect → List ℕ → List ℕ
-drawn g font code w y q m = cellMap g y (cellDot g font code w (q .top)) q m
+-- the cell of a glyph's columns, framed or not
+unfoldable pub drawnAs : Module → Bool → List ℕ → ℕ → Style → Rect → List ℕ → List ℕ
+drawnAs g framed cols w y q m = cellMap g y (cellDot framed cols w (q .top)) q m
+
+-- framed as the module asks
+abbrev pub drawn : Module → List ℕ → ℕ → Style → Rect → List ℕ → List ℕ
+drawn g cols w y q m = drawnAs g (isFramed g cols) cols w y q m
 
 -- the all-off cell of a wrap
 unfoldable pub blanked : Module → Style → Rect → List ℕ → List ℕ

@@ -1,5 +1,5 @@
 // Cells: what writes glyphs into memory. Mixes columns in, draws one cell, blanks one, stores one image byte.
-// It may use the paper, its laws, the dots and the glyphs, and it knows nothing of cursors and windows.
+// It may use the paper, its laws, the dots and the glyphs, and it knows nothing of cursors and windows, nor where a glyph's columns come from.
 use glyphs::Cell;
 use glyphs::Tall;
 use glyphs::Walk;
@@ -9,11 +9,10 @@ use paper::Style;
 ghost use mathlib.Core.Path.{_≡_};
 ghost use Prim.Native.Nat.{_≤_};
 ghost use lib.ListN.{length};
-ghost use Rattle.paper.specs.Panel.{fontLength};
 ghost use Rattle.paper.specs.Strokes.{rectAt};
 ghost use Rattle.laws_memory.specs.Rectangles.{Fits, Within};
 ghost use Rattle.glyphs.specs.Columns.{plainWidth};
-ghost use Rattle.cells.specs.Drawn.{drawn, blanked, imaged};
+ghost use Rattle.cells.specs.Drawn.{drawnAs, drawn, blanked, imaged};
 ghost use Rattle.cells.specs.Mixed.{mixedAt, mixedColumn, unlit, inlaid};
 
 // Mixes a byte into memory.
@@ -50,94 +49,75 @@ fn stamp_blank(g: Module, mem: &mut [u8], style: Style, x: usize, y: usize, coun
     }
 }
 
-// The columns of a code's glyph, one row high and not enlarged.
+// The first columns of a glyph, one row high and not enlarged.
 fn stamp_glyph(
     g: Module,
     mem: &mut [u8],
-    font: &[u8],
-    code: u8,
+    framed: bool,
+    cols: &[u8],
     style: Style,
     left: usize,
     top: usize,
+    count: usize,
 )
-    requires { ⌜ Within g (rectAt left top (g .glyph) 1) × Fits g (now mem) ⌝ }
-    requires { ⌜ (length (now font) ≡ fontLength g) × (0x20 ≤ code) ⌝ }
-    ensures { λ _. ⌜ now (mem .exit) ≡ inlaid g (now (font .entry)) code style left top (g .glyph) (now (mem .entry)) ⌝ }
+    requires { ⌜ Within g (rectAt left top count 1) × Fits g (now mem) × (count ≤ length (now cols)) ⌝ }
+    ensures { λ _. ⌜ now (mem .exit) ≡ inlaid g framed (now (cols .entry)) style left top count (now (mem .entry)) ⌝ }
 {
-    let count = g.glyph;
-    let first = count * ((code as usize) - 0x20);
-    let p = glyphs::placing(g, top);
+    let p = glyphs::placing(framed, top);
     for j in 0..count {
-        let v = glyphs::placed(p, font[first + j]);
+        let v = glyphs::placed(p, cols[j]);
         mix(g, mem, style, left + j, top, glyphs::reversed(style, v));
     }
 }
 
-// A whole cell one row high that is not enlarged: a blank column on the left or none, the glyph's, and one on the right or none.
-fn stamp(
-    g: Module,
-    mem: &mut [u8],
-    font: &[u8],
-    code: u8,
-    w: u8,
-    style: Style,
-    left: usize,
-    top: usize,
-)
-    requires { ⌜ Within g (rectAt left top (plainWidth g w) 1) × Fits g (now mem) ⌝ }
-    requires { ⌜ (length (now font) ≡ fontLength g) × (0x20 ≤ code) × (w ≤ 1) ⌝ }
-    requires { ⌜ (style .across ≡ 1) × (style .down ≡ 1) ⌝ }
-    ensures { λ _. ⌜ now (mem .exit) ≡ drawn g (now (font .entry)) code w style (rectAt left top (plainWidth g w) 1) (now (mem .entry)) ⌝ }
+// A whole cell one row high that is not enlarged, of a glyph with as many columns as the font's: a blank column on the left or none,
+// the glyph's, and one on the right or none. The module tells how many they are, so that a loop over characters knows it.
+fn stamp(g: Module, mem: &mut [u8], cols: &[u8], w: u8, style: Style, left: usize, top: usize)
+    requires { ⌜ Within g (rectAt left top (plainWidth g w) 1) × Fits g (now mem) × (length (now cols) ≡ g .glyph) ⌝ }
+    requires { ⌜ (w ≤ 1) × (style .across ≡ 1) × (style .down ≡ 1) ⌝ }
+    ensures { λ _. ⌜ now (mem .exit) ≡ drawnAs g (g .framed) (now (cols .entry)) w style (rectAt left top (plainWidth g w) 1) (now (mem .entry)) ⌝ }
 {
-    let blanks = glyphs::blanks_left(g, w);
+    let framed = g.framed;
+    let blanks = glyphs::blanks_left(framed, w);
     let last = blanks + g.glyph;
     stamp_blank(g, mem, style, left, top, blanks);
-    stamp_glyph(g, mem, font, code, style, left + blanks, top);
-    stamp_blank(g, mem, style, left + last, top, glyphs::blank_right(g));
+    stamp_glyph(g, mem, framed, cols, style, left + blanks, top, g.glyph);
+    stamp_blank(g, mem, style, left + last, top, glyphs::blank_right(framed));
 }
 
 // A cell column by column, each repeated across and down.
-fn walk_over(g: Module, mem: &mut [u8], font: &[u8], code: u8, w: u8, style: Style, r: Rect)
+fn walk_over(g: Module, mem: &mut [u8], framed: bool, cols: &[u8], w: u8, style: Style, r: Rect)
     requires { ⌜ Within g r × Fits g (now mem) ⌝ }
-    requires { ⌜ (length (now font) ≡ fontLength g) × (0x20 ≤ code) ⌝ }
     requires { ⌜ (1 ≤ style .across) × (style .down ≤ 2) × (r .height ≤ style .down) ⌝ }
-    ensures { λ _. ⌜ now (mem .exit) ≡ drawn g (now (font .entry)) code w style r (now (mem .entry)) ⌝ }
+    ensures { λ _. ⌜ now (mem .exit) ≡ drawnAs g framed (now (cols .entry)) w style r (now (mem .entry)) ⌝ }
 {
     let top = r.top;
     let mut walk = Walk {
-        column: glyphs::column(g, font, code, w, style, top, 0),
+        column: glyphs::column(framed, cols, w, style, top, 0),
         index: 0,
         times: 0,
     };
     for j in 0..r.width {
-        walk = glyphs::next(g, font, code, w, style, top, walk);
+        walk = glyphs::next(framed, cols, w, style, top, walk);
         let t = walk.column;
         mix_column(g, mem, style, r.left + j, top, r.height, t);
     }
 }
 
-// A whole cell at (left, top). It is small, so that a loop over characters has it in it.
-pub fn draw_whole(
-    g: Module,
-    mem: &mut [u8],
-    font: &[u8],
-    code: u8,
-    cell: Cell,
-    left: usize,
-    top: usize,
-)
-    requires { ⌜ Within g (rectAt left top (cell .columns) (cell .rows)) × Fits g (now mem) ⌝ }
-    requires { ⌜ (length (now font) ≡ fontLength g) × (0x20 ≤ code) ⌝ }
+// A whole cell at (left, top), of a glyph with as many columns as the font's. It is small, so that a loop over characters has it in it.
+pub fn draw_whole(g: Module, mem: &mut [u8], cols: &[u8], cell: Cell, left: usize, top: usize)
+    requires { ⌜ Within g (rectAt left top (cell .columns) (cell .rows)) × Fits g (now mem) × (length (now cols) ≡ g .glyph) ⌝ }
     requires { ⌜ (1 ≤ cell .style .across) × (cell .style .down ≤ 2) × (cell .rows ≡ cell .style .down) ⌝ }
-    ensures { λ _. ⌜ now (mem .exit) ≡ drawn g (now (font .entry)) code (cell .blanks) (cell .style)
+    ensures { λ _. ⌜ now (mem .exit) ≡ drawn g (now (cols .entry)) (cell .blanks) (cell .style)
         (rectAt left top (cell .columns) (cell .rows)) (now (mem .entry)) ⌝ }
 {
     let w = cell.blanks;
     let style = cell.style;
-    let whole = glyphs::blanks_left(g, w) + g.glyph + glyphs::blank_right(g);
+    let framed = g.framed;
+    let whole = glyphs::blanks_left(framed, w) + g.glyph + glyphs::blank_right(framed);
     let plain = (style.across == 1) & (style.down == 1);
     if plain & (cell.columns == whole) & (w <= 1) {
-        stamp(g, mem, font, code, w, style, left, top);
+        stamp(g, mem, cols, w, style, left, top);
         return;
     }
     let r = Rect {
@@ -146,23 +126,41 @@ pub fn draw_whole(
         width: cell.columns,
         height: cell.rows,
     };
-    walk_over(g, mem, font, code, w, style, r);
+    walk_over(g, mem, framed, cols, w, style, r);
 }
 
-// The cell of a code at a rectangle's top left: the part of it that lies in the rectangle.
-pub fn draw(g: Module, mem: &mut [u8], font: &[u8], code: u8, w: u8, style: Style, r: Rect)
-    requires { ⌜ Within g r × Fits g (now mem) ⌝ }
-    requires { ⌜ (length (now font) ≡ fontLength g) × (0x20 ≤ code) ⌝ }
+// The cell of such a glyph at a rectangle's top left: the part of it that lies in the rectangle.
+pub fn draw_alike(g: Module, mem: &mut [u8], cols: &[u8], w: u8, style: Style, r: Rect)
+    requires { ⌜ Within g r × Fits g (now mem) × (length (now cols) ≡ g .glyph) ⌝ }
     requires { ⌜ (1 ≤ style .across) × (style .down ≤ 2) × (r .height ≤ style .down) ⌝ }
-    ensures { λ _. ⌜ now (mem .exit) ≡ drawn g (now (font .entry)) code w style r (now (mem .entry)) ⌝ }
+    ensures { λ _. ⌜ now (mem .exit) ≡ drawn g (now (cols .entry)) w style r (now (mem .entry)) ⌝ }
 {
-    let whole = glyphs::blanks_left(g, w) + g.glyph + glyphs::blank_right(g);
+    let framed = g.framed;
+    let whole = glyphs::blanks_left(framed, w) + g.glyph + glyphs::blank_right(framed);
     let plain = (style.across == 1) & (style.down == 1) & (r.height == 1);
     if plain & (r.width == whole) & (w <= 1) {
-        stamp(g, mem, font, code, w, style, r.left, r.top);
+        stamp(g, mem, cols, w, style, r.left, r.top);
         return;
     }
-    walk_over(g, mem, font, code, w, style, r);
+    walk_over(g, mem, framed, cols, w, style, r);
+}
+
+// The cell of any glyph so: one with other columns than the font's is not framed, and stands in its cell as it is.
+pub fn draw(g: Module, mem: &mut [u8], cols: &[u8], w: u8, style: Style, r: Rect)
+    requires { ⌜ Within g r × Fits g (now mem) ⌝ }
+    requires { ⌜ (1 ≤ style .across) × (style .down ≤ 2) × (r .height ≤ style .down) ⌝ }
+    ensures { λ _. ⌜ now (mem .exit) ≡ drawn g (now (cols .entry)) w style r (now (mem .entry)) ⌝ }
+{
+    if cols.len() == g.glyph {
+        draw_alike(g, mem, cols, w, style, r);
+        return;
+    }
+    let plain = (style.across == 1) & (style.down == 1) & (r.height == 1);
+    if plain & (r.width <= cols.len()) {
+        stamp_glyph(g, mem, false, cols, style, r.left, r.top, r.width);
+        return;
+    }
+    walk_over(g, mem, false, cols, w, style, r);
 }
 
 // The all-off cell of a wrap at a rectangle's top left: the part of it that lies in the rectangle.

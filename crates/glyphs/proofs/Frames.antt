@@ -1,12 +1,14 @@
--- The blanks of a framed glyph, its dots on a row, and a glyph's columns in the font. Assumes nothing.
+-- Which glyphs are framed, their blanks, and their dots on a row. Assumes nothing.
 use mathlib.Core.Path.{_≡_, refl}
-use mathlib.Core.Bool.{Bool, true, false, cond}
-use Prim.Native.Nat.{ℕ, zero, suc, _+_, _*_, _-_, _/_, _^_, _<_, _≤_}
-use native.Mathlib.Nat.{mul-le-mul-left}
+use mathlib.Core.Bool.{Bool, true, false, cond, _&&_}
+use mathlib.Core.List.{List}
+use Prim.Native.Nat.{ℕ, zero, suc, _*_, _/_, _^_, _<_, _≤_}
 use native.Mathlib.Omega.{arith}
 use lib.Dec.{eqb}
+use lib.ListN.{length}
+use borrow.Author.Tests.{eq-eqb, ne-eqb}
 use Rattle.paper.specs.declared.Module.{Module}
-use Rattle.paper.specs.Panel.{fontLength}
+use Rattle.paper.specs.Panel.{isFramed}
 use Rattle.paper.specs.Cells.{blankColumns}
 use Rattle.laws_bytes.specs.Bytes.{placedByte}
 use Rattle.glyphs.specs.declared.Lift.{Lift}
@@ -20,17 +22,19 @@ columns-few g w = go (g .framed) (eqb w 0) where
   go true false = omega arith
   go false t = omega arith
 
--- a code's glyph begins in the font
-pub font-most : (g : Module) (code : ℕ) → 0x20 ≤ code → code < 0x100 → g .glyph * (code - 0x20) ≤ fontLength g
-font-most g code l h = mul-le-mul-left (g .glyph) (omega arith)
+-- a glyph with as many columns as the font's have is framed where they are, and no other is
+module _ (g : Module) (cols : List ℕ) where
+  pub framed-alike : length cols ≡ g .glyph → isFramed g cols ≡ g .framed
+  framed-alike e = rw (eq-eqb _ _ e) (go (g .framed)) where
+    go : (f : Bool) → (f && true) ≡ f
+    go true = refl
+    go false = refl
 
--- column k of it stands in the font
-pub glyph-in : (g : Module) (code k : ℕ) → 0x20 ≤ code → code < 0x100 → k < g .glyph
-    → g .glyph * (code - 0x20) + k < fontLength g
-glyph-in g code k l h e = omega (arith, mul-le-mul-left (g .glyph) (code-in code l h))
-  where
-    code-in : (n : ℕ) → 0x20 ≤ n → n < 0x100 → n - 0x20 + 1 ≤ 0x100 - 0x20
-    code-in n l h = omega arith
+  pub framed-other : (length cols ≡ g .glyph → ⊥) → isFramed g cols ≡ false
+  framed-other n = rw (ne-eqb _ _ n) (go (g .framed)) where
+    go : (f : Bool) → (f && false) ≡ false
+    go true = refl
+    go false = refl
 
 -- the placing by the two tests
 abbrev liftBy : Bool → Bool → Lift

@@ -1,2 +1,3 @@
--- Laws that belong to no one function: of the blanks, of how a glyph is placed, and of its columns in the font.
+-- Laws that belong to no one function: of the blanks, of how a glyph is placed, and of where its columns stand.
 pub mod Frames
+pub mod Parts

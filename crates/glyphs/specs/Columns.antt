@@ -3,6 +3,7 @@ use mathlib.Core.Bool.{Bool, cond}
 use mathlib.Core.List.{List}
 use Prim.Native.Nat.{ℕ, _+_}
 use lib.Dec.{eqb}
+use Rattle.paper.specs.declared.Module.{Module}
 use Rattle.paper.specs.declared.Style.{Style}
 use Rattle.paper.specs.Cells.{blanksLeft}
 use Rattle.laws_bytes.specs.Bytes.{placedByte, glyphColumn, tallByte, reversedByte}
@@ -41,9 +42,9 @@ plainByte framed cols w row k = placedByte framed row (glyphColumn framed cols w
 abbrev pub blankRight : Bool → ℕ
 blankRight framed = cond framed 1 0
 
--- how many columns a cell of n columns has that is not enlarged
-abbrev pub plainWidth : Bool → ℕ → ℕ → ℕ
-plainWidth framed n w = blanksLeft framed w + n + blankRight framed
+-- how many columns the cell of a font's glyph has that is not enlarged
+abbrev pub plainWidth : Module → ℕ → ℕ
+plainWidth g w = blanksLeft (g .framed) w + g .glyph + blankRight (g .framed)
 
 -- how a glyph's column is placed on a row of memory: framed, one dot down, and up again on row 0
 abbrev pub framedOn : ℕ → Lift

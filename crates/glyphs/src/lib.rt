@@ -8,7 +8,8 @@ ghost use mathlib.Core.Bool.{cond};
 ghost use Prim.Native.Nat.{_+_, _*_, _/_, _^_, _≤_, _<_};
 ghost use lib.Dec.{eqb};
 ghost use lib.ListN.{length};
-ghost use Rattle.paper.specs.Panel.{fontLength, isFramed};
+ghost use Rattle.paper.specs.Panel.{fontLength, fontGlyph};
+ghost use Rattle.paper.specs.Downloads.{placesIn, faces, ownGlyph, glyphOf};
 ghost use Rattle.paper.specs.Cells.{blanksLeft, blankColumns, cellWidth};
 ghost use Rattle.laws_bytes.specs.Bytes.{double, glyphColumn, reversedByte, mixedByte};
 ghost use Rattle.glyphs.specs.Cell.{cellOf};
@@ -71,11 +72,39 @@ pub fn cell_of(g: Module, w: u8, style: Style) -> Cell
     }
 }
 
-// Whether a glyph of these columns is framed by blanks.
-pub fn framed_by(g: Module, cols: &[u8]) -> bool
-    ensures { λ b. ⌜ b ≡ isFramed g (now (cols .entry)) ⌝ }
+// A code's columns in the font.
+pub fn font_glyph(g: Module, font: &[u8], code: u8) -> &[u8]
+    requires { ⌜ (length (now font) ≡ fontLength g) × (0x20 ≤ code) ⌝ }
+    ensures { λ r. ⌜ now r ≡ fontGlyph g (now (font .entry)) code ⌝ }
 {
-    g.framed & (cols.len() == g.glyph)
+    let first = g.glyph * ((code as usize) - 0x20);
+    let end = first + g.glyph;
+    &font[first..end]
+}
+
+// The columns of the download in place k.
+fn own_glyph(own: &[u8], k: usize) -> &[u8]
+    requires { ⌜ k < placesIn (now own) ⌝ }
+    ensures { λ r. ⌜ now r ≡ ownGlyph (now (own .entry)) k ⌝ }
+{
+    let first = 9 * k + 2;
+    if own[9 * k + 1] == 5 {
+        return &own[first..first + 5];
+    }
+    &own[first..first + 7]
+}
+
+// The columns that a code is drawn from: its download's if it is stored, else the font's. Where there are no downloads callers take the
+// font's at once, since a search is dear in a loop over characters.
+pub fn glyph_of<'a>(g: Module, font: &'a [u8], own: &'a [u8], code: u8) -> &'a [u8]
+    requires { ⌜ (length (now font) ≡ fontLength g) × (0x20 ≤ code) ⌝ }
+    ensures { λ r. ⌜ now r ≡ glyphOf g (faces (now (font .entry)) (now (own .entry))) code ⌝ }
+{
+    let k = downloads::place(own, code);
+    if k < own.len() / 9 {
+        return own_glyph(own, k);
+    }
+    font_glyph(g, font, code)
 }
 
 // How many blank columns stand on the left of a glyph.

@@ -5,8 +5,8 @@ use native.Mathlib.Omega.{arith}
 use borrow.Author.Needs.{needs}
 use Rattle.paper.specs.Strokes.{rectAt}
 use Rattle.glyphs.specs.Columns.{plainWidth}
-use Rattle.cells.specs.Drawn.{drawn}
-use Rattle.cells.proofs.Stamps.{plain-cell-facts}
+use Rattle.cells.specs.Drawn.{drawnAs}
+use Rattle.cells.proofs.Stamps.{plain-cell-facts, drawn-alike}
 use Rattle.cells.proofs.draw_whole.Statement.{statement}
 use Rattle.cells.proofs.draw_whole.Tie as tie
 
@@ -34,10 +34,17 @@ returns c =
     let start = tested .before .before .before .before .before .before .before .before .before .before in
     let a = start .args in
     let p = plain tested in
-    let one : 1 ≡ a .cell .rows = omega (arith, p .1, start .pre .1 .1 .2) in
-    c .before .before .stamp .ensures
-    ∙ ap₂ (λ (width height : ℕ). drawn (a .g) (a .font .now) (a .code) (a .cell .blanks) (a .cell .style) (rectAt (a .left) (a .top) width height) (a .mem .now))
-    (sym (p .2)) one
+    let one : 1 ≡ a .cell .rows = omega (arith, p .1, start .pre .1 .2) in
+    drawn-alike _ _ _ _ _ _ _ (start .pre .0 .2) (c .before .before .stamp .ensures
+    ∙ ap₂ (λ (width height : ℕ). drawnAs (a .g) (a .g .framed) (a .cols .now) (a .cell .blanks) (a .cell .style) (rectAt (a .left) (a .top) width height)
+    (a .mem .now))
+    (sym (p .2)) one)
+
+returns-2 : tie.Need-returns-2
+returns-2 c =
+    let walking = c .before .before in
+    let start = walking .before .before .before .before .before .before .before .before .before .before .before .before in
+    drawn-alike _ _ _ _ _ _ _ (start .pre .0 .2) (walking .walk-over .ensures)
 
 pub draw-whole-spec : {M : Type 1} → statement M
 draw-whole-spec =
@@ -52,4 +59,4 @@ draw-whole-spec =
     returns
     (λ c κs. search needs)
     (λ c. search needs)
-    (λ c. search needs))
+    returns-2)

@@ -11,8 +11,8 @@ returns c =
     let glyph = right .before .before .before .before in
     let left = glyph .before .before .before .before in
     let start = left .before .before .before in
-    stamp-end _ _ _ _ _ _ _ (omega arith) (omega arith) (λ n. start .before .shared-slice-known .given n .fits) _ _
-    (start .blanks-left .ensures .0) (right .blank-right .ensures .0) _ _ _ _
+    stamp-end _ _ _ _ _ _ _ (omega arith) (omega arith) (λ n. start .before .shared-slice-known .given n .fits) _ _ _
+    (start .blanks-left .ensures .0) (omega arith) (right .blank-right .ensures .0) _ _ _ _
     (λ a. start .before .before .slice-known .given a .fits) (left .stamp-blank .ensures) (glyph .stamp-glyph .ensures)
     (c .before .before .stamp-blank2 .ensures)
 

@@ -1,31 +1,23 @@
 -- `cells::stamp_glyph` meets its contract. The loop's invariant: the first j columns are mixed in. Assumes nothing.
 use mathlib.Core.Path.{_≡_, refl, ap}
-use Prim.Native.Nat.{_+_, _*_, _-_, _≤_, _<_}
+use Prim.Native.Nat.{_-_, _≤_}
 use borrow.Author.Needs.{needs}
 use native.Mathlib.Omega.{arith}
-use lib.ListN.{length}
+use lib.ListN.{length, getD}
 use Rattle.laws_memory.proofs.Rects.{rect-none, row-end}
-use Rattle.paper.specs.Panel.{fontLength, glyphByte}
 use Rattle.laws_bytes.specs.Bytes.{reversedByte}
-use Rattle.glyphs.proofs.Frames.{font-most, glyph-in, placed-byte}
+use Rattle.glyphs.proofs.Frames.{placed-byte}
 use Rattle.cells.specs.Mixed.{inlaid}
 use Rattle.cells.proofs.Stamps.{inlaid-turn}
 use Rattle.cells.proofs.stamp_glyph.Statement.{statement}
 use Rattle.cells.proofs.stamp_glyph.Tie as tie
 
 abbrev Inv-loop : tie.InvT-loop
-Inv-loop g mem₀ font code style left top count first p j₀ mem j =
-    (j ≤ count) × (length mem ≡ length mem₀) × (mem ≡ inlaid g font code style left top j mem₀)
+Inv-loop g mem₀ framed cols style left top count p j₀ mem j =
+    (j ≤ count) × (length mem ≡ length mem₀) × (mem ≡ inlaid g framed cols style left top j mem₀)
 
 abbrev μ-loop : tie.MeasureT-loop
-μ-loop g mem₀ font code style left top count first p j₀ mem j = count - j
-
--- the column is one of the font's
-inside : (c : tie.In-loop Inv-loop μ-loop)
-    → let a = c .before .before .before .before .before .args in a .g .glyph * (a .code - 0x20) + c .before .loop .j < fontLength (a .g)
-inside c =
-    let a = c .before .before .before .before .before .args in
-    glyph-in (a .g) (a .code) (c .before .loop .j) (omega arith) (omega arith) (omega arith)
+μ-loop g mem₀ framed cols style left top count p j₀ mem j = count - j
 
 loop-holds : tie.Need-loop-holds Inv-loop μ-loop
 unfolding inlaid
@@ -40,7 +32,7 @@ loop-again c =
       omega (arith, c .before .before .mix .kept .1 .0),
       inlaid-turn _ _ _ _ _ _ _ _ _ _ _ (head .inv .2)
           (rw (c .before .before .before .reversed .ensures, c .before .before .before .before .before .placed .ensures, set .placing .ensures .0)
-          (ap (reversedByte (a .style)) (placed-byte (a .g) (a .top) (glyphByte (a .g) (a .font .now) (a .code) (head .j)))))
+          (ap (reversedByte (a .style)) (placed-byte (a .framed) (a .top) (getD (a .cols .now) (head .j) 0))))
           (c .before .before .mix .ensures),
     )
 
@@ -54,12 +46,9 @@ stamp-glyph-spec =
     (tie.spec
     Inv-loop
     μ-loop
-    (λ c. omega arith)
-    (λ c. omega (arith, font-most (c .before .before .args .g) (c .before .before .args .code) (omega arith) (omega arith)))
     (λ c κs. search needs)
     loop-holds
-    (λ c. omega (arith, inside c))
-    (λ c. omega (arith, inside (c .before)))
+    (λ c. omega arith)
     (λ c κs. let e = c .before .before .before .placing .ensures in (e .1, e .2))
     (λ c. omega arith)
     (λ c κs. search needs)

@@ -10,19 +10,19 @@ use Rattle.paper.specs.Cells.{cellDot}
 use Rattle.laws_bytes.specs.Bytes.{cellByte}
 use Rattle.laws_bytes.proofs.Drawn.{cell-byte}
 use Rattle.laws_memory.proofs.Rects.{rect-none}
-use Rattle.cells.specs.Drawn.{drawn}
+use Rattle.cells.specs.Drawn.{drawnAs}
 use Rattle.cells.proofs.Columns.{inked, cell-turn, cell-end}
 use Rattle.cells.proofs.Walks.{Walked, walked-next, walked-row}
 use Rattle.cells.proofs.walk_over.Statement.{statement}
 use Rattle.cells.proofs.walk_over.Tie as tie
 
 abbrev Inv-loop : tie.InvT-loop
-Inv-loop g mem₀ font code w style r top walk₀ j₀ width mem walk j =
-    (j ≤ width) × (length mem ≡ length mem₀) × Walked g font code w style top j walk
-    × (mem ≡ rectMap g (rectAt (r .left) top j (r .height)) (inked style (cellByte g font code w style top)) mem₀)
+Inv-loop g mem₀ framed cols w style r top walk₀ j₀ width mem walk j =
+    (j ≤ width) × (length mem ≡ length mem₀) × Walked framed cols w style top j walk
+    × (mem ≡ rectMap g (rectAt (r .left) top j (r .height)) (inked style (cellByte framed cols w style top)) mem₀)
 
 abbrev μ-loop : tie.MeasureT-loop
-μ-loop g mem₀ font code w style r top walk₀ j₀ width mem walk j = width - j
+μ-loop g mem₀ framed cols w style r top walk₀ j₀ width mem walk j = width - j
 
 loop-holds : tie.Need-loop-holds Inv-loop μ-loop
 loop-holds c = (
@@ -37,21 +37,21 @@ loop-again c =
     let head = c .before .before .before .before .before .before .before .before .loop in
     let start = c .before .before .before .before .before .before .before .before .before .before .before .before in
     let walked =
-    walked-next _ _ _ _ _ _ _ _ _ (start .pre .1 .1 .0) (head .inv .2) (c .before .before .before .before .before .before .next .ensures) in (
+    walked-next _ _ _ _ _ _ _ _ (start .pre .1 .0) (head .inv .2) (c .before .before .before .before .before .before .next .ensures) in (
       omega arith,
       omega (arith, c .before .before .mix-column .kept .1 .0),
       walked .0,
-      cell-turn _ _ _ _ _ _ _ _ _ _ _ (head .inv .3) (λ r h. walked-row _ _ _ _ _ _ _ _ (walked .0) (walked .1) r (omega (arith, h, start .pre)))
+      cell-turn _ _ _ _ _ _ _ _ _ _ _ (head .inv .3) (λ r h. walked-row _ _ _ _ _ _ _ (walked .0) (walked .1) r (omega (arith, h, start .pre)))
           (c .before .before .mix-column .ensures),
     )
 
 returns : tie.Need-returns Inv-loop μ-loop
-unfolding drawn
+unfolding drawnAs
 returns c =
     let head = c .before .loop in
     let entry = c .before .before .before in
-    cell-end _ _ (cellByte _ _ _ _ _ _) _ _ _ _ (cellDot _ _ _ _ _) _ _ _ (λ a. entry .before .slice-known .given a .fits)
-    (λ j r h. cell-byte _ _ (λ n. entry .shared-slice-known .given n .fits) _ _ _ _ j r (omega arith) (omega arith))
+    cell-end _ _ (cellByte _ _ _ _ _) _ _ _ _ (cellDot _ _ _ _) _ _ _ (λ a. entry .before .slice-known .given a .fits)
+    (λ j r h. cell-byte _ _ (λ n. entry .shared-slice-known .given n .fits) _ _ _ j r (omega arith) (omega arith))
     (head .inv .3) (head .inv .0) (c .loop-test .left)
 
 pub walk-over-spec : {M : Type 1} → statement M
