@@ -1,4 +1,4 @@
--- The state that bytes stand for: the first 115 of a record of 259, which end with the downloads. docs/RECORD.md has the layout.
+-- The state that bytes stand for: the first 115 of a record of 259, which ends with the downloads. docs/RECORD.md has the layout.
 -- Assumes nothing.
 use Prim.Native.Nat.{ℕ, _<_, _≤_}
 use mathlib.Core.Path.{_≡_}
