@@ -12,7 +12,7 @@ use Rattle.paper.specs.Calls.{feedCall}
 use Rattle.demands.specs.Events.{Event, refresh, joined, play}
 use Rattle.demands.specs.Demands.{InStep, someFont, someMemory, someGlass}
 use Rattle.record_write.specs.Bytes.{recordLength}
-use Rattle.record_read.specs.Record.{stateOf}
+use Rattle.record_read.specs.Record.{stateIn, storeIn}
 use Rattle.face.specs.Face.{feedC}
 use Rattle.demands_c.specs.Plays.{playC, SamePlay}
 use Rattle.demands_c.specs.Demands.{StartAnswersC, FeedAnswersC, HoldAnswersC, ReleaseAnswersC, RefreshAnswersC, PieceFedC, ServedC, BegunInStepC, someRecord}
@@ -37,16 +37,16 @@ demand-1-release-C = release-answers-C
 pub demand-1-refresh-C : (l m glass : List ℕ) → RefreshAnswersC l m glass
 demand-1-refresh-C = refresh-answers-C
 
--- ==== DEMAND 2: what is fed from C is document 01's feed of the state that the record stands for
+-- ==== DEMAND 2: what is fed from C is document 01's feed of the state that the record stands for, with its downloads
 
-pub demand-2-C : (l m font bytes : List ℕ) → length m ≡ memoryLength panel → length font ≡ fontLength panel → accepted panel (stateOf l) ≡ true
-    → PieceFedC (feedCall panel font (stateOf l) m bytes) (feedC panel l m font bytes)
+pub demand-2-C : (l m font bytes : List ℕ) → length m ≡ memoryLength panel → length font ≡ fontLength panel → accepted panel (stateIn l) (storeIn l) ≡ true
+    → PieceFedC (feedCall panel font (stateIn l) (storeIn l) m bytes) (feedC panel l m font bytes)
 demand-2-C = piece-fed-C
 
 -- ==== DEMAND 3: pieces cut anywhere and refreshes anywhere, in a window that is held
 
 pub demand-3-C : (font : List ℕ) (k back : ℕ) (v : Settings) (l m glass : List ℕ)
-    → InStep panel font k back v (stateOf l) m glass
+    → InStep panel font k back v (stateIn l) (storeIn l) m glass
     → (events : List Event)
     → ServedC font k back v l m glass events (playC font l m glass events) (feedC panel l m font (joined events))
     (playC font l m glass (events ++ refresh ∷ []))
@@ -54,7 +54,7 @@ demand-3-C = served-C
 
 -- from any bytes of a record's length, held or not, calls in a row are document 01's calls in a row
 pub demand-3-paper-C : (font : List ℕ) (events : List Event) (l m glass : List ℕ) → length l ≡ recordLength
-    → SamePlay (play panel font (stateOf l) m glass events) (playC font l m glass events)
+    → SamePlay (play panel font (stateIn l) (storeIn l) m glass events) (playC font l m glass events)
 demand-3-paper-C = same-play
 
 -- ---- and it can be begun: a panel that is started, fed a define, held and refreshed is in step, whatever is lent

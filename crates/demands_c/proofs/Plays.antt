@@ -3,7 +3,8 @@ use mathlib.Core.Path.{_≡_, refl, sym, ap, ap₂, subst, subst₂, _∙_}
 use mathlib.Core.List.{List, [], _∷_, _++_, map}
 use Prim.Native.Nat.{ℕ, zero, suc, _+_}
 use lib.Dec.{eqb}
-use lib.ListN.{length, replicate}
+use lib.ListN.{length, replicate, length-drop}
+use native.Mathlib.Omega.{arith}
 use borrow.Author.Tests.{eq-eqb}
 use Rattle.paper.specs.declared.Settings.{Settings}
 use Rattle.paper.specs.declared.Span.{Span}
@@ -12,53 +13,69 @@ use Rattle.paper.specs.declared.State.{State}
 use Rattle.paper.specs.Panel.{panel}
 use Rattle.paper.specs.Numbers.{refusalNumber}
 use Rattle.paper.specs.Settings.{withSpans}
-use Rattle.paper.specs.Calls.{feedCall, Refreshing, refreshCall}
+use Rattle.paper.specs.Calls.{isAccepted, Feeding, fedNothing, feedRefusal, feedCall, Refreshing, refreshCall}
 use Rattle.laws_state.specs.Guest.{Guest, OnlyInside}
 use Rattle.laws_state.proofs.Tests.{by-cond}
-use Rattle.demands.specs.Events.{Event, piece, refresh, joined, fedThen, refreshedThen, followed, play, spansSince, visible}
+use Rattle.laws_state.proofs.Downloads.{store-run-length}
+use Rattle.demands.specs.Events.{Event, piece, refresh, joined, StateRecord, stateRecord, fedThen, refreshedThen, followed, play, spansSince, visible}
 use Rattle.demands.specs.Demands.{InStep, CopiedOnly}
 use Rattle.demands.proofs.Events.{rested, fed-first}
 use Rattle.demands.proofs.Demands.{demand-3}
-use Rattle.record_write.specs.Bytes.{recordLength}
-use Rattle.record_write.proofs.Laid.{encoded-length}
-use Rattle.record_read.specs.Record.{stateOf}
+use Rattle.record_write.specs.Bytes.{stateLength, recordLength}
+use Rattle.record_write.proofs.Laid.{record-length}
+use Rattle.record_read.specs.Record.{stateIn, storeIn}
 use Rattle.face.specs.Face.{recordAfter, FeedingC, feedingC, feedC, RefreshingC, refreshingC, refreshC}
-use Rattle.face.proofs.Laws.{feed-stands, refresh-stands}
-use Rattle.demands_c.specs.Plays.{playC, SamePlay}
+use Rattle.face.proofs.Laws.{Stands, feed-stands, refresh-stands}
+use Rattle.demands_c.specs.Plays.{recordIn, playC, SamePlay}
 use Rattle.demands_c.specs.Demands.{ServedC}
-use Rattle.demands_c.proofs.Records.{panel-rows, record-length}
+use Rattle.demands_c.proofs.Records.{panel-rows, record-long}
 
 -- ---- one call on a record of the right length
 
-pub record-size : (n : ℕ) (s : State) (l : List ℕ) → length l ≡ recordLength → length (recordAfter n s l) ≡ recordLength
+-- a call leaves as many bytes of downloads as there were
+pub record-size : (n : ℕ) (s : State) (ds l : List ℕ) → length l ≡ recordLength → length ds ≡ length (storeIn l)
+    → length (recordAfter n s ds l) ≡ recordLength
 unfolding recordAfter
-record-size n s l h = by-cond (λ (r : List ℕ). length r ≡ recordLength) (eqb n 0) (λ _. encoded-length s) (λ _. h)
+record-size n s ds l h e =
+    by-cond (λ (r : List ℕ). length r ≡ recordLength) (eqb n 0)
+    (λ _. record-length s ds (e ∙ omega (arith, h, length-drop stateLength l))) (λ _. h)
+
+feed-store-size : (font : List ℕ) (s : State) (ds m bytes : List ℕ) → length (feedCall panel font s ds m bytes .store) ≡ length ds
+unfolding feedCall
+feed-store-size font s ds m bytes =
+    by-cond (λ (f : Feeding). length (f .store) ≡ length ds) (isAccepted (feedRefusal panel font s ds m))
+    (λ _. store-run-length panel font (fedNothing Accepted s ds m) bytes) (λ _. refl)
 
 module _ (l : List ℕ) (h : length l ≡ recordLength) where
-  pub feed-is : (m font bytes : List ℕ) → feedC panel l m font bytes ≡ feedingC l (feedCall panel font (stateOf l) m bytes)
+  pub feed-is : (m font bytes : List ℕ) → feedC panel l m font bytes ≡ feedingC l (feedCall panel font (stateIn l) (storeIn l) m bytes)
   unfolding feedC
   feed-is m font bytes = rw (eq-eqb (length l) recordLength h)
 
   pub feed-size : (m font bytes : List ℕ) → length (feedC panel l m font bytes .state) ≡ recordLength
   feed-size m font bytes =
       ap (λ (f : FeedingC). length (f .state)) (feed-is m font bytes)
-      ∙ record-size _ (feedCall panel font (stateOf l) m bytes .answer .state) l h
+      ∙ record-size _ (feedCall panel font (stateIn l) (storeIn l) m bytes .answer .state) _ l h
+      (feed-store-size font (stateIn l) (storeIn l) m bytes)
 
-  pub refresh-is : (m glass : List ℕ) → refreshC panel l m glass ≡ refreshingC l (refreshCall panel (stateOf l) m glass)
+  pub refresh-is : (m glass : List ℕ) → refreshC panel l m glass ≡ refreshingC l (refreshCall panel (stateIn l) (storeIn l) m glass)
   unfolding refreshC
   refresh-is m glass = rw (eq-eqb (length l) recordLength h)
 
   pub refresh-size : (m glass : List ℕ) → length (refreshC panel l m glass .state) ≡ recordLength
   refresh-size m glass =
       ap (λ (r : RefreshingC). length (r .state)) (refresh-is m glass)
-      ∙ record-size _ (refreshCall panel (stateOf l) m glass .answer .state) l h
+      ∙ record-size _ (refreshCall panel (stateIn l) (storeIn l) m glass .answer .state) (storeIn l) l h refl
+
+-- the record stands for what it is said to stand for
+pub stands-for : {l : List ℕ} {s : State} {ds : List ℕ} → Stands l s ds → recordIn l ≡ stateRecord s ds
+stands-for z = ap₂ stateRecord (z .state) (z .store)
 
 -- ---- calls in a row
 
 module _ (font : List ℕ) where
   -- THE INDUCTION: every call leaves the record, memory and glass that document 01's call leaves
   pub same-play : (events : List Event) (l m glass : List ℕ) → length l ≡ recordLength
-      → SamePlay (play panel font (stateOf l) m glass events) (playC font l m glass events)
+      → SamePlay (play panel font (stateIn l) (storeIn l) m glass events) (playC font l m glass events)
   same-play [] l m glass h =
       record {
         size = h;
@@ -74,8 +91,9 @@ module _ (font : List ℕ) where
       let f = feedC panel l m font bs in
       let e = feed-is l h m font bs in
       let rest =
-      subst₂ (λ (s : State) (n : List ℕ). SamePlay (play panel font s n glass es) (playC font (f .state) (f .mem) glass es))
-      (feed-stands panel panel-rows l h m font bs) (ap (λ (q : FeedingC). q .mem) e)
+      subst₂
+      (λ (q : StateRecord) (n : List ℕ). SamePlay (play panel font (q .state) (q .downloads) n glass es) (playC font (f .state) (f .mem) glass es))
+      (stands-for (feed-stands panel panel-rows l h m font bs)) (ap (λ (q : FeedingC). q .mem) e)
       (same-play es (f .state) (f .mem) glass (feed-size l h m font bs)) in
       record {
         size = rest .size;
@@ -91,8 +109,9 @@ module _ (font : List ℕ) where
       let r = refreshC panel l m glass in
       let e = refresh-is l h m glass in
       let rest =
-      subst₂ (λ (s : State) (n : List ℕ). SamePlay (play panel font s m n es) (playC font (r .state) m (r .glass) es))
-      (refresh-stands panel panel-rows l h m glass) (ap (λ (q : RefreshingC). q .glass) e)
+      subst₂
+      (λ (q : StateRecord) (n : List ℕ). SamePlay (play panel font (q .state) (q .downloads) m n es) (playC font (r .state) m (r .glass) es))
+      (stands-for (refresh-stands panel panel-rows l h m glass)) (ap (λ (q : RefreshingC). q .glass) e)
       (same-play es (r .state) m (r .glass) (refresh-size l h m glass)) in
       record {
         size = rest .size;
@@ -133,16 +152,17 @@ unfolding refusalNumber
 all-taken zero = refl
 all-taken (suc n) = ap (λ (ns : List ℕ). 0 ∷ ns) (all-taken n)
 
-module _ (font : List ℕ) (k back : ℕ) (v : Settings) (l m glass : List ℕ) (i : InStep panel font k back v (stateOf l) m glass) where
+module _ (font : List ℕ) (k back : ℕ) (v : Settings) (l m glass : List ℕ) (i : InStep panel font k back v (stateIn l) (storeIn l) m glass) where
   -- document 01's play is served, and this is it
   pub served-C : (events : List Event)
       → ServedC font k back v l m glass events (playC font l m glass events) (feedC panel l m font (joined events))
       (playC font l m glass (events ++ refresh ∷ []))
   unfolding panel
   served-C events =
-      let size = record-length l (i .holding .accepts) in
-      let served = demand-3 font k back v (stateOf l) m glass i events in
+      let size = record-long l (i .holding .accepts) in
+      let served = demand-3 font k back v (stateIn l) (storeIn l) m glass i events in
       let same = same-play font events l m glass size in
+      let state = ap (λ (q : StateRecord). q .state) (same .state) in
       let one = feed-is l size m font (joined events) in
       record {
         answers = same .answers ∙ ap (map refusalNumber) (served .refusals) ∙ all-taken (length events);
@@ -150,12 +170,13 @@ module _ (font : List ℕ) (k back : ℕ) (v : Settings) (l m glass : List ℕ) 
         carried = same .carried ∙ served .carried ∙ sym (ap (λ (f : FeedingC). f .answer .carried) one);
         answered = same .answered ∙ served .answered ∙ sym (ap (λ (f : FeedingC). f .answer .answered) one);
         state =
-            same .state
+            state
             ∙ served .state
-            ∙ ap (λ (s : State). withSpans s (spansSince panel font (stateOf l) [] events))
-            (sym (feed-stands panel panel-rows l size m font (joined events)));
-        outside = subst (OnlyInside panel k (stateOf l) m) (sym (same .mem)) (served .outside);
-        guest = subst (Guest k back v (stateOf l)) (sym (same .state)) (served .guest);
+            ∙ ap (λ (s : State). withSpans s (spansSince panel font (recordIn l) [] events))
+            (sym (feed-stands panel panel-rows l size m font (joined events) .state));
+        outside = subst (OnlyInside panel k (stateIn l) m) (sym (same .mem)) (served .outside);
+        guest = subst (Guest k back v (stateIn l)) (sym state) (served .guest);
+        downloads = ap (λ (q : StateRecord). q .downloads) (same .state) ∙ served .downloads;
         shows =
             same-play font (events ++ refresh ∷ []) l m glass size .glass
             ∙ served .shows
@@ -165,9 +186,10 @@ module _ (font : List ℕ) (k back : ℕ) (v : Settings) (l m glass : List ℕ) 
             let b = same-play font before l m glass size in
             let p = playC font l m glass before in
             let r = refresh-is (p .state) (b .size) (p .mem) (p .glass) in
-            let paper : refreshCall panel (stateOf (p .state)) (p .mem) (p .glass)
-            ≡ (let q = play panel font (stateOf l) m glass before in refreshCall panel (q .state) (q .mem) (q .glass)) =
-            rw (b .state, b .mem, b .glass) in
+            let paper : refreshCall panel (stateIn (p .state)) (storeIn (p .state)) (p .mem) (p .glass)
+            ≡ (let q = play panel font (stateIn l) (storeIn l) m glass before in
+            refreshCall panel (q .state .state) (q .state .downloads) (q .mem) (q .glass)) =
+            ap (λ (q : StateRecord). refreshCall panel (q .state) (q .downloads) (p .mem) (p .glass)) (b .state) ∙ rw (b .mem, b .glass) in
             let moved =
             ap (λ (t : RefreshingC). t .answer .moved) r ∙ ap (λ (t : Refreshing). t .answer .moved) paper in
             record {

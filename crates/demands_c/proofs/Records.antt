@@ -1,6 +1,6 @@
 -- Number 8 by a record's bytes: they stand for a state that is not accepted exactly if they are no accepted state's record.
 -- Assumes nothing.
-use mathlib.Core.Path.{_≡_, refl, sym, ap, _∙_}
+use mathlib.Core.Path.{_≡_, refl, sym, ap, ap₂, _∙_}
 use mathlib.Core.Logic.{_↔_}
 use mathlib.Core.Bool.{true, false, and-eq-true-iff, true≢false}
 use mathlib.Core.List.{List, [], _∷_}
@@ -16,12 +16,14 @@ use Rattle.paper.specs.declared.State.{State}
 use Rattle.paper.specs.Panel.{panel}
 use Rattle.paper.specs.Strokes.{noSpan}
 use Rattle.paper.specs.Settings.{windowAt, selectable}
-use Rattle.paper.specs.Bounds.{windowsOk, holdOk, spanOk, spansOk, accepted}
+use Rattle.paper.specs.Bounds.{windowsOk, holdOk, spanOk, spansOk, stateOk, accepted}
+use Rattle.laws_downloads.proofs.Stored.{store-length}
 use Rattle.laws_state.proofs.Parts.{parts, whole}
-use Rattle.record_write.specs.Bytes.{recordLength, windowsBytes, tailBytes, encoded}
-use Rattle.record_write.proofs.Laid.{encoded-length}
-use Rattle.record_read.specs.Record.{stateOf}
-use Rattle.record_read.proofs.Back.{read-back, accepted-record, other-bytes}
+use Rattle.laws_state.proofs.Records.{accepted-parts, accepted-whole}
+use Rattle.record_write.specs.Bytes.{recordLength, windowsBytes, tailBytes, encoded, recordOf}
+use Rattle.record_write.proofs.Laid.{record-length}
+use Rattle.record_read.specs.Record.{stateOf, stateIn, storeIn}
+use Rattle.record_read.proofs.Back.{read-back, state-part, store-back, accepted-record, other-bytes}
 use Rattle.face.proofs.Laws.{NoState}
 
 -- ---- a record has four windows and two spans, and no more of a state is ever tested
@@ -73,9 +75,9 @@ two-ok (p ∷ q ∷ ps) e =
     rw (f .0, and-eq-true-iff (spanOk panel q) (spansOk panel ps) .0 (f .1) .0)
 
 module _ (s : State) where
-  trimmed-accepted : accepted panel s ≡ true → accepted panel (trimmed s) ≡ true
+  trimmed-ok : stateOk panel s ≡ true → stateOk panel (trimmed s) ≡ true
   unfolding windowsOk
-  trimmed-accepted h =
+  trimmed-ok h =
       let p = parts panel s h in
       whole panel (trimmed s)
       (record {
@@ -88,22 +90,33 @@ module _ (s : State) where
         spans = two-ok (s .spans) (p .spans);
       })
 
+  trimmed-accepted : (ds : List ℕ) → accepted panel s ds ≡ true → accepted panel (trimmed s) ds ≡ true
+  trimmed-accepted ds h =
+      let p = accepted-parts panel s ds h in accepted-whole panel (trimmed s) ds (trimmed-ok (p .0)) (p .1) (p .2)
+
   -- its record stands for it
-  trimmed-back : stateOf (encoded s) ≡ trimmed s
+  trimmed-bytes : stateOf (encoded s) ≡ trimmed s
   unfolding panel encoded windowsBytes tailBytes
-  trimmed-back = read-back (trimmed s) (record { windows = refl; spans = refl })
+  trimmed-bytes = read-back (trimmed s) (record { windows = refl; spans = refl })
+
+  trimmed-back : (ds : List ℕ) → stateIn (recordOf s ds) ≡ trimmed s
+  trimmed-back ds = ap stateOf (state-part s ds) ∙ trimmed-bytes
 
 -- ---- what stands for an accepted state
 
 -- has the length of a record
-pub record-length : (l : List ℕ) → accepted panel (stateOf l) ≡ true → length l ≡ recordLength
-record-length l h = ap length (accepted-record panel l h) ∙ encoded-length (stateOf l)
+pub record-long : (l : List ℕ) → accepted panel (stateIn l) (storeIn l) ≡ true → length l ≡ recordLength
+record-long l h =
+    ap length (accepted-record panel l h)
+    ∙ record-length (stateIn l) (storeIn l) (store-length (storeIn l) (accepted-parts panel (stateIn l) (storeIn l) h .1))
 
 -- and is its record: number 8
-pub no-state : (l : List ℕ) → (accepted panel (stateOf l) ≡ false) ↔ NoState panel l
+pub no-state : (l : List ℕ) → (accepted panel (stateIn l) (storeIn l) ≡ false) ↔ NoState panel l
 no-state l = (
-  λ e s h r.
+  λ e s ds h r.
       true≢false
-      (sym (trimmed-accepted s h) ∙ ap (accepted panel) (sym (trimmed-back s) ∙ ap stateOf (sym r)) ∙ e),
+      (sym (trimmed-accepted s ds h)
+      ∙ ap₂ (accepted panel) (sym (trimmed-back s ds) ∙ ap stateIn (sym r)) (sym (store-back s ds) ∙ ap storeIn (sym r))
+      ∙ e),
   other-bytes panel l,
 )

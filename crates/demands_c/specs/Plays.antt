@@ -1,16 +1,19 @@
--- Pieces and refreshes in any order, as a caller in C makes them: one record goes from call to call. Assumes nothing.
+-- Pieces and refreshes in any order, as a caller in C makes them: one record goes from call to call. `recordIn l` is the state, with
+-- its downloads, that record l stands for. Assumes nothing.
 use mathlib.Core.Path.{_≡_}
 use mathlib.Core.List.{List, [], _∷_, map}
 use Prim.Native.Nat.{ℕ}
 use lib.ListN.{length}
 use Rattle.paper.specs.declared.Refusal.{Refusal}
-use Rattle.paper.specs.declared.State.{State}
 use Rattle.paper.specs.Panel.{panel}
 use Rattle.paper.specs.Numbers.{refusalNumber}
-use Rattle.demands.specs.Events.{Event, piece, refresh, Play, resting, fedThen, refreshedThen}
+use Rattle.demands.specs.Events.{Event, piece, refresh, StateRecord, stateRecord, Play, resting, fedThen, refreshedThen}
 use Rattle.record_write.specs.Bytes.{recordLength}
-use Rattle.record_read.specs.Record.{stateOf}
+use Rattle.record_read.specs.Record.{stateIn, storeIn}
 use Rattle.face.specs.Face.{feedC, refreshC}
+
+abbrev pub recordIn : List ℕ → StateRecord
+recordIn l = stateRecord (stateIn l) (storeIn l)
 
 -- the state is held as a record, and a call answers a number
 abbrev pub PlayC : Type 0
@@ -26,10 +29,11 @@ playC font l m glass (refresh ∷ es) =
     let r = refreshC panel l m glass in
     refreshedThen (r .answer .answer) (r .answer .moved) (playC font (r .state) m (r .glass) es)
 
--- the play c from C comes to what the play p of document 01's calls comes to: the record stands for the state, and the rest is equal
-pub record SamePlay (p : Play State Refusal) (c : PlayC) : Type 0 where
+-- the play c from C comes to what the play p of document 01's calls comes to: the record stands for the state with its
+-- downloads, and the rest is equal
+pub record SamePlay (p : Play StateRecord Refusal) (c : PlayC) : Type 0 where
   pub size : length (c .state) ≡ recordLength
-  pub state : stateOf (c .state) ≡ p .state
+  pub state : recordIn (c .state) ≡ p .state
   pub mem : c .mem ≡ p .mem
   pub glass : c .glass ≡ p .glass
   pub carried : c .carried ≡ p .carried

@@ -1,8 +1,10 @@
--- The five calls as C makes them, for any module: the state is a record of bytes, answers and outcomes are document 01's numbers. Each
--- call is the paper's own on the state that the record stands for, so its refusals and their order are the paper's. Assumes nothing.
+-- The five calls as C makes them, for any module: the state and its downloads are a record of bytes, answers and outcomes are document
+-- 01's numbers. Each call is the paper's own on the state that the record stands for and the downloads in it, so its refusals and their
+-- order are the paper's. Assumes nothing.
 use Prim.Native.Nat.{ℕ}
 use mathlib.Core.Bool.{cond}
-use mathlib.Core.List.{List}
+use mathlib.Core.List.{List, _++_}
+use lib.ListN.{take}
 use lib.Dec.{eqb}
 use Rattle.paper.specs.declared.Answer.{Answer}
 use Rattle.paper.specs.declared.Fed.{Fed}
@@ -11,8 +13,8 @@ use Rattle.paper.specs.declared.Span.{Span}
 use Rattle.paper.specs.declared.State.{State}
 use Rattle.paper.specs.Numbers.{refusalNumber, outcomeNumber}
 use Rattle.paper.specs.Calls.{isNot, Starting, startCall, Feeding, feedCall, holdCall, releaseCall, Refreshing, refreshCall}
-use Rattle.record_write.specs.Bytes.{recordLength, spansInto, encoded}
-use Rattle.record_read.specs.Record.{stateOf}
+use Rattle.record_write.specs.Bytes.{stateLength, recordLength, spansInto, recordOf}
+use Rattle.record_read.specs.Record.{stateIn, storeIn}
 use Rattle.face.specs.declared.PanelFed.{PanelFed}
 use Rattle.face.specs.declared.PanelRefreshed.{PanelRefreshed}
 
@@ -20,13 +22,17 @@ use Rattle.face.specs.declared.PanelRefreshed.{PanelRefreshed}
 abbrev pub wrongLength : ℕ
 wrongLength = 100
 
--- "nothing in the state changes" unless the answer is 0: the record that a call leaves
-unfoldable pub recordAfter : ℕ → State → List ℕ → List ℕ
-recordAfter n s l = cond (eqb n 0) (encoded s) l
+-- "nothing in the state changes" unless the answer is 0: the record that a call leaves where it gave this state and these downloads
+unfoldable pub recordAfter : ℕ → State → List ℕ → List ℕ → List ℕ
+recordAfter n s ds l = cond (eqb n 0) (recordOf s ds) l
+
+-- the same with the downloads that are in the record
+abbrev pub stateAfter : ℕ → State → List ℕ → List ℕ
+stateAfter n s l = recordAfter n s (storeIn l) l
 
 -- the same with only the spans written, which is all that a refresh changes (`spans-only` in proofs/Calls)
 unfoldable pub spansAfter : ℕ → List Span → List ℕ → List ℕ
-spansAfter n ps l = cond (eqb n 0) (spansInto l ps) l
+spansAfter n ps l = cond (eqb n 0) (spansInto (take stateLength l) ps ++ storeIn l) l
 
 -- ---- start
 
@@ -39,12 +45,12 @@ pub record StartingC : Type 0 where
 abbrev pub starting : ℕ → List ℕ → List ℕ → StartingC
 starting n l m = record { answer = n; state = l; mem = m }
 
--- "Start takes no state; refused, it gives the initial state with both spans empty."
+-- "Start takes no state; refused, it gives the initial state with both spans empty": its record is written either way
 abbrev pub startingC : Starting → StartingC
-startingC c = starting (refusalNumber (c .answer .refusal)) (encoded (c .answer .state)) (c .mem)
+startingC c = starting (refusalNumber (c .answer .refusal)) (recordOf (c .answer .state) (c .store)) (c .mem)
 
 unfoldable pub startC : Module → List ℕ → List ℕ → StartingC
-startC g l m = cond (isNot recordLength l) (starting wrongLength l m) (startingC (startCall g m))
+startC g l m = cond (isNot recordLength l) (starting wrongLength l m) (startingC (startCall g m (storeIn l)))
 
 -- ---- feed
 
@@ -65,12 +71,13 @@ fedC f = fed (refusalNumber (f .refusal)) (outcomeNumber (f .outcome)) (f .carri
 
 abbrev pub feedingC : List ℕ → Feeding → FeedingC
 feedingC l f =
-    feeding (fedC (f .answer)) (recordAfter (refusalNumber (f .answer .refusal)) (f .answer .state) l) (f .mem)
+    feeding (fedC (f .answer)) (recordAfter (refusalNumber (f .answer .refusal)) (f .answer .state) (f .store) l) (f .mem)
 
 -- "9 .. when the call is refused"; "every count given back is 0"
 unfoldable pub feedC : Module → List ℕ → List ℕ → List ℕ → List ℕ → FeedingC
 feedC g l m font piece =
-    cond (isNot recordLength l) (feeding (fed wrongLength 9 0 0) l m) (feedingC l (feedCall g font (stateOf l) m piece))
+    cond (isNot recordLength l) (feeding (fed wrongLength 9 0 0) l m)
+    (feedingC l (feedCall g font (stateIn l) (storeIn l) m piece))
 
 -- ---- hold and release
 
@@ -83,13 +90,13 @@ abbrev pub calling : ℕ → List ℕ → CallingC
 calling n l = record { answer = n; state = l }
 
 abbrev pub callingC : List ℕ → Answer → CallingC
-callingC l a = calling (refusalNumber (a .refusal)) (recordAfter (refusalNumber (a .refusal)) (a .state) l)
+callingC l a = calling (refusalNumber (a .refusal)) (stateAfter (refusalNumber (a .refusal)) (a .state) l)
 
 unfoldable pub holdC : Module → List ℕ → ℕ → CallingC
-holdC g l k = cond (isNot recordLength l) (calling wrongLength l) (callingC l (holdCall g (stateOf l) k))
+holdC g l k = cond (isNot recordLength l) (calling wrongLength l) (callingC l (holdCall g (stateIn l) (storeIn l) k))
 
 unfoldable pub releaseC : Module → List ℕ → CallingC
-releaseC g l = cond (isNot recordLength l) (calling wrongLength l) (callingC l (releaseCall g (stateOf l)))
+releaseC g l = cond (isNot recordLength l) (calling wrongLength l) (callingC l (releaseCall g (stateIn l) (storeIn l)))
 
 -- ---- refresh
 
@@ -108,10 +115,10 @@ moved n k = record { answer = n; moved = k }
 abbrev pub refreshingC : List ℕ → Refreshing → RefreshingC
 refreshingC l r =
     refreshing (moved (refusalNumber (r .answer .refusal)) (r .answer .moved))
-    (recordAfter (refusalNumber (r .answer .refusal)) (r .answer .state) l)
+    (stateAfter (refusalNumber (r .answer .refusal)) (r .answer .state) l)
     (r .glass)
 
 unfoldable pub refreshC : Module → List ℕ → List ℕ → List ℕ → RefreshingC
 refreshC g l m glass =
     cond (isNot recordLength l) (refreshing (moved wrongLength 0) l glass)
-    (refreshingC l (refreshCall g (stateOf l) m glass))
+    (refreshingC l (refreshCall g (stateIn l) (storeIn l) m glass))

@@ -2,15 +2,16 @@
 // It may use record_write for the record. specs/Face.antt has the five calls as C makes them, each a definition.
 use paper::Spans;
 use paper::State;
+use record_write::STATE;
 ghost use mathlib.Core.Path.{_≡_};
 ghost use lib.ListN.{length};
 ghost use Rattle.record_write.specs.Bytes.{recordLength};
-ghost use Rattle.face.specs.Face.{recordAfter, spansAfter};
+ghost use Rattle.face.specs.Face.{stateAfter, spansAfter};
 
 // The answer to a record of another length: no number of document 01.
 pub const WRONG_LENGTH: u32 = 100;
 
-// What a feed answers: its number, what the last byte came to, commands carried out, commands answered 11 to 17.
+// What a feed answers: its number, what the last byte came to, commands carried out, commands answered 11 to 19.
 #[repr(C)]
 pub struct PanelFed {
     pub answer: u32,
@@ -26,13 +27,13 @@ pub struct PanelRefreshed {
     pub moved: usize,
 }
 
-// Writes the state that a call gave, if its answer is 0; a refused call leaves the record alone.
+// Writes the state that a call gave into a record, if its answer is 0, and leaves the downloads in it; a refused call leaves all of it.
 pub fn keep(answer: u32, s: State, to: &mut [u8])
     requires { ⌜ length (now to) ≡ recordLength ⌝ }
-    ensures { λ r. ⌜ now (to .exit) ≡ recordAfter answer s (now (to .entry)) ⌝ }
+    ensures { λ r. ⌜ now (to .exit) ≡ stateAfter answer s (now (to .entry)) ⌝ }
 {
     if answer == 0 {
-        record_write::encode(s, to);
+        record_write::encode(s, &mut to[..STATE]);
     }
 }
 
@@ -42,6 +43,6 @@ pub fn keep_spans(answer: u32, spans: Spans, to: &mut [u8])
     ensures { λ r. ⌜ now (to .exit) ≡ spansAfter answer spans (now (to .entry)) ⌝ }
 {
     if answer == 0 {
-        record_write::put_spans(spans, to);
+        record_write::put_spans(spans, &mut to[..STATE]);
     }
 }

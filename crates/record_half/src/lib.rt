@@ -1,44 +1,68 @@
 // The record, its half-read part: what is half read, laid flat as a case's number and its parameters, and back. No case of an enum crosses to C.
 // It uses the paper alone; docs/RECORD.md has the numbers.
 ghost use mathlib.Core.Path.{_≡_};
-ghost use Rattle.record_half.specs.Slots.{slots, keyNumber, keyOf, wordSlots, wordOf, halfSlots, halfOf};
+ghost use Rattle.paper.specs.Reading.{noColumns};
+ghost use Rattle.record_half.specs.Slots.{words, bytes, keyNumber, keyOf, wordSlots, wordOf, noteNumber, batchSlots, batchOf, halfSlots, halfOf};
+use paper::Batch;
+use paper::Columns;
 use paper::Half;
 use paper::Key;
 use paper::Word;
 
-// The case's number, and its parameters from the left: bytes in a, b, c and 16-bit ones in p, q, r, s. What a case does not
-// use is 0.
+// The case's number, and its parameters from the left: bytes in a, b, c, d and 16-bit ones in p, q, r, s; and the columns of a download
+// as they come. What a case does not use is 0.
 pub struct Slots {
     pub case: u8,
     pub a: u8,
     pub b: u8,
     pub c: u8,
+    pub d: u8,
     pub p: u16,
     pub q: u16,
     pub r: u16,
     pub s: u16,
+    pub columns: Columns,
+}
+
+// No columns of a download.
+fn no_columns() -> Columns
+    ensures { λ r. ⌜ r ≡ noColumns 0 ⌝ }
+{
+    Columns {
+        width: 0,
+        come: 0,
+        c0: 0,
+        c1: 0,
+        c2: 0,
+        c3: 0,
+        c4: 0,
+        c5: 0,
+        c6: 0,
+    }
 }
 
 // A case with bytes alone.
 fn narrow(case: u8, a: u8, b: u8, c: u8) -> Slots
-    ensures { λ t. ⌜ t ≡ slots case a b c 0 0 0 0 ⌝ }
+    ensures { λ t. ⌜ t ≡ bytes case a b c ⌝ }
 {
     wide(case, a, b, c, 0, 0, 0, 0)
 }
 
 // A case with 16-bit parameters.
 fn wide(case: u8, a: u8, b: u8, c: u8, p: u16, q: u16, r: u16, s: u16) -> Slots
-    ensures { λ t. ⌜ t ≡ slots case a b c p q r s ⌝ }
+    ensures { λ t. ⌜ t ≡ words case a b c p q r s ⌝ }
 {
     Slots {
         case,
         a,
         b,
         c,
+        d: 0,
         p,
         q,
         r,
         s,
+        columns: no_columns(),
     }
 }
 
@@ -58,6 +82,7 @@ fn key_number(key: Key) -> u8
         Key::Mixing => 6,
         Key::Width => 7,
         Key::Write => 8,
+        Key::Switch => 9,
     }
 }
 
@@ -74,6 +99,7 @@ fn key_of(n: u8) -> Key
         6 => Key::Mixing,
         7 => Key::Width,
         8 => Key::Write,
+        9 => Key::Switch,
         _ => Key::Charset,
     }
 }
@@ -122,6 +148,49 @@ fn word_of(n: u8, a: u8, p: u16, q: u16, r: u16) -> Word
     }
 }
 
+// ---- a define of downloads
+
+// The note of a drop as a byte.
+fn note_number(dropped: bool) -> u8
+    ensures { λ n. ⌜ n ≡ noteNumber dropped ⌝ }
+{
+    if dropped {
+        return 1;
+    }
+    0
+}
+
+// A case of a define: its first code in a, the one that it is at in b, its last in c, the note of a drop in d, and the columns.
+fn batch_slots(case: u8, batch: Batch, columns: Columns) -> Slots
+    ensures { λ t. ⌜ t ≡ batchSlots case batch columns ⌝ }
+{
+    let dropped = batch.dropped;
+    Slots {
+        case,
+        a: batch.first,
+        b: batch.code,
+        c: batch.last,
+        d: note_number(dropped),
+        p: 0,
+        q: 0,
+        r: 0,
+        s: 0,
+        columns,
+    }
+}
+
+// The codes of a define that slots say; a note other than 1 is taken for none, whose number is another.
+fn batch_of(a: u8, b: u8, c: u8, d: u8) -> Batch
+    ensures { λ r. ⌜ r ≡ batchOf a b c d ⌝ }
+{
+    Batch {
+        first: a,
+        code: b,
+        last: c,
+        dropped: d == 1,
+    }
+}
+
 // ---- what is half read
 
 // What is half read, laid flat.
@@ -142,8 +211,8 @@ pub fn half_slots(half: Half) -> Slots
         Half::DownloadA => narrow(10, 0, 0, 0),
         Half::DownloadFrom => narrow(11, 0, 0, 0),
         Half::DownloadTo { from } => narrow(12, from, 0, 0),
-        Half::GlyphWidth { code, last } => narrow(13, code, last, 0),
-        Half::GlyphByte { code, last, left } => narrow(14, code, last, left),
+        Half::GlyphWidth(batch) => batch_slots(13, batch, no_columns()),
+        Half::GlyphByte { batch, columns } => batch_slots(14, batch, columns),
         Half::Low(word) => word_slots(15, 0, word),
         Half::High { word, low } => word_slots(16, low, word),
         Half::ImageKind { width, height } => wide(17, 0, 0, 0, width, height, 0, 0),
@@ -158,6 +227,8 @@ pub fn half_slots(half: Half) -> Slots
         Half::SelectA => narrow(21, 0, 0, 0),
         Half::WindowA => narrow(22, 0, 0, 0),
         Half::WindowB { a } => narrow(23, a, 0, 0),
+        Half::EraseA => narrow(24, 0, 0, 0),
+        Half::EraseCode { a } => narrow(25, a, 0, 0),
     }
 }
 
@@ -169,10 +240,12 @@ pub fn half_of(t: Slots) -> Half
     let a = t.a;
     let b = t.b;
     let c = t.c;
+    let d = t.d;
     let p = t.p;
     let q = t.q;
     let r = t.r;
     let s = t.s;
+    let columns = t.columns;
     match case {
         1 => Half::Escape,
         2 => Half::Unit,
@@ -186,11 +259,10 @@ pub fn half_of(t: Slots) -> Half
         10 => Half::DownloadA,
         11 => Half::DownloadFrom,
         12 => Half::DownloadTo { from: a },
-        13 => Half::GlyphWidth { code: a, last: b },
+        13 => Half::GlyphWidth(batch_of(a, b, c, d)),
         14 => Half::GlyphByte {
-            code: a,
-            last: b,
-            left: c,
+            batch: batch_of(a, b, c, d),
+            columns,
         },
         15 => Half::Low(word_of(a, b, p, q, r)),
         16 => Half::High {
@@ -212,6 +284,8 @@ pub fn half_of(t: Slots) -> Half
         21 => Half::SelectA,
         22 => Half::WindowA,
         23 => Half::WindowB { a },
+        24 => Half::EraseA,
+        25 => Half::EraseCode { a },
         _ => Half::Nothing,
     }
 }

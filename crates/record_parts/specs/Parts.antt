@@ -8,6 +8,7 @@ use Rattle.paper.specs.declared.Settings.{Settings}
 use Rattle.paper.specs.declared.Cursor.{Cursor}
 use Rattle.paper.specs.declared.Window.{Window}
 use Rattle.paper.specs.declared.Span.{Span}
+use Rattle.paper.specs.declared.Columns.{Columns}
 use Rattle.paper.specs.declared.Half.{Half}
 use Rattle.paper.specs.declared.Hold.{Hold}
 use Rattle.paper.specs.declared.Hold.the-variants.{Free, Held}
@@ -30,12 +31,13 @@ settingsAt l i =
       speed = getD l (i + 4) 0;
       width = getD l (i + 5) 0;
       write = getD l (i + 6) 0;
+      switch = getD l (i + 7) 0;
       style =
           record {
-            reverse = getD l (i + 7) 0;
-            mixing = getD l (i + 8) 0;
-            across = getD l (i + 9) 0;
-            down = getD l (i + 10) 0;
+            reverse = getD l (i + 8) 0;
+            mixing = getD l (i + 9) 0;
+            across = getD l (i + 10) 0;
+            down = getD l (i + 11) 0;
           };
     }
 
@@ -58,13 +60,28 @@ spanAt l i = record { first = wordAt l i; end = wordAt l (i + 2) }
 unfoldable pub holdAt : List ℕ → ℕ → Hold
 holdAt l i = cond (eqb (getD l i 0) 1) (Held (getD l (i + 1) 0) (getD l (i + 2) 0) (settingsAt l (i + 3))) Free
 
+abbrev pub columnsAt : List ℕ → ℕ → Columns
+columnsAt l i =
+    record {
+      width = getD l i 0;
+      come = getD l (i + 1) 0;
+      c0 = getD l (i + 2) 0;
+      c1 = getD l (i + 3) 0;
+      c2 = getD l (i + 4) 0;
+      c3 = getD l (i + 5) 0;
+      c4 = getD l (i + 6) 0;
+      c5 = getD l (i + 7) 0;
+      c6 = getD l (i + 8) 0;
+    }
+
 unfoldable pub slotsAt : List ℕ → ℕ → Slots
 slotsAt l i =
-    slots (getD l i 0) (getD l (i + 1) 0) (getD l (i + 2) 0) (getD l (i + 3) 0)
-    (wordAt l (i + 4))
-    (wordAt l (i + 6))
-    (wordAt l (i + 8))
-    (wordAt l (i + 10))
+    slots (getD l i 0) (getD l (i + 1) 0) (getD l (i + 2) 0) (getD l (i + 3) 0) (getD l (i + 4) 0)
+    (wordAt l (i + 5))
+    (wordAt l (i + 7))
+    (wordAt l (i + 9))
+    (wordAt l (i + 11))
+    (columnsAt l (i + 13))
 
 -- the state of bytes, with this held and this half read
 abbrev pub decodedWith : List ℕ → Hold → Half → State

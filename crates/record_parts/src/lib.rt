@@ -1,10 +1,11 @@
-// The parts of a record: the state that bytes give, read by their places. docs/RECORD.md has the layout.
+// The parts of a state's bytes: the state that they give, read by their places. docs/RECORD.md has the layout.
 // It uses the paper, numbers for a 16-bit number, record_half for what is half read, and record_write for the places.
 ghost use mathlib.Core.Path.{_≡_};
 ghost use Prim.Native.Nat.{_+_, _≤_};
 ghost use lib.ListN.{length};
-ghost use Rattle.record_write.specs.Bytes.{settingsLength, cursorLength, windowLength, holdLength, halfLength, spanLength, recordLength};
-ghost use Rattle.record_parts.specs.Parts.{wordAt, settingsAt, cursorAt, windowFrom, spanAt, holdAt, slotsAt, decodedWith};
+ghost use Rattle.record_write.specs.Bytes.{settingsLength, cursorLength, windowLength, holdLength, columnsLength, halfLength, spanLength, stateLength};
+ghost use Rattle.record_parts.specs.Parts.{wordAt, settingsAt, cursorAt, windowFrom, spanAt, holdAt, columnsAt, slotsAt, decodedWith};
+use paper::Columns;
 use paper::Cursor;
 use paper::Half;
 use paper::Hold;
@@ -37,10 +38,10 @@ fn settings_at(l: &[u8], i: usize) -> Settings
     ensures { λ v. ⌜ v ≡ settingsAt (now (l .entry)) i ⌝ }
 {
     let style = Style {
-        reverse: l[i + 7],
-        mixing: l[i + 8],
-        across: l[i + 9],
-        down: l[i + 10],
+        reverse: l[i + 8],
+        mixing: l[i + 9],
+        across: l[i + 10],
+        down: l[i + 11],
     };
     Settings {
         charset: l[i],
@@ -50,6 +51,7 @@ fn settings_at(l: &[u8], i: usize) -> Settings
         speed: l[i + 4],
         width: l[i + 5],
         write: l[i + 6],
+        switch: l[i + 7],
         style,
     }
 }
@@ -108,6 +110,24 @@ pub fn hold_at(l: &[u8], i: usize) -> Hold
     Hold::Free
 }
 
+// The columns of a download as they come.
+fn columns_at(l: &[u8], i: usize) -> Columns
+    requires { ⌜ i + columnsLength ≤ length (now l) ⌝ }
+    ensures { λ c. ⌜ c ≡ columnsAt (now (l .entry)) i ⌝ }
+{
+    Columns {
+        width: l[i],
+        come: l[i + 1],
+        c0: l[i + 2],
+        c1: l[i + 3],
+        c2: l[i + 4],
+        c3: l[i + 5],
+        c4: l[i + 6],
+        c5: l[i + 7],
+        c6: l[i + 8],
+    }
+}
+
 // What is half read, laid flat.
 pub fn slots_at(l: &[u8], i: usize) -> Slots
     requires { ⌜ i + halfLength ≤ length (now l) ⌝ }
@@ -118,16 +138,18 @@ pub fn slots_at(l: &[u8], i: usize) -> Slots
         a: l[i + 1],
         b: l[i + 2],
         c: l[i + 3],
-        p: word_at(l, i + 4),
-        q: word_at(l, i + 6),
-        r: word_at(l, i + 8),
-        s: word_at(l, i + 10),
+        d: l[i + 4],
+        p: word_at(l, i + 5),
+        q: word_at(l, i + 7),
+        r: word_at(l, i + 9),
+        s: word_at(l, i + 11),
+        columns: columns_at(l, i + 13),
     }
 }
 
 // The state that bytes give, with this held and this half read.
 pub fn decode_with(l: &[u8], hold: Hold, half: Half) -> State
-    requires { ⌜ length (now l) ≡ recordLength ⌝ }
+    requires { ⌜ length (now l) ≡ stateLength ⌝ }
     ensures { λ s. ⌜ s ≡ decodedWith (now (l .entry)) hold half ⌝ }
 {
     let settings = settings_at(l, 0);

@@ -1,12 +1,13 @@
--- What was encoded decodes to the same state, and a record that stands for an accepted state is that state's encoding.
+-- What was encoded decodes to the same state, and a record that stands for an accepted state is that state's, with its downloads.
 -- Assumes nothing.
 use Prim.Native.Nat.{ℕ, _+_, _*_}
 use native.Mathlib.Nat.{div-add-mod'}
 use native.Mathlib.Omega.{arith}
-use mathlib.Core.Path.{_≡_, refl, sym, _∙_}
-use mathlib.Core.List.{List, [], _∷_}
+use mathlib.Core.Path.{_≡_, refl, sym, ap, _∙_}
+use mathlib.Core.List.{List, [], _∷_, _++_}
 use mathlib.Core.Bool.{Bool, true, false, and-false, true≢false}
-use lib.ListN.{length, getD}
+use lib.ListN.{length, getD, take, take-append-drop}
+use lib.Seq.{take-at, drop-at}
 use Rattle.paper.specs.declared.Module.{Module}
 use Rattle.paper.specs.declared.Settings.{Settings}
 use Rattle.paper.specs.declared.Cursor.{Cursor}
@@ -19,7 +20,8 @@ use Rattle.paper.specs.declared.State.{State}
 use Rattle.paper.specs.Panel.{panel}
 use Rattle.paper.specs.Strokes.{noSpan}
 use Rattle.paper.specs.Settings.{windowAt, selectable}
-use Rattle.paper.specs.Bounds.{accepted}
+use Rattle.paper.specs.Bounds.{stateOk, accepted}
+use Rattle.laws_bytes.proofs.Tests.{both-of}
 use Rattle.laws_memory.proofs.Spans.{two-spans}
 use Rattle.laws_state.specs.Sized.{Sized}
 use Rattle.laws_state.proofs.Tests.{by-cond}
@@ -27,9 +29,10 @@ use Rattle.record_half.specs.declared.Slots.{Slots}
 use Rattle.record_half.specs.Slots.{slots, halfSlots}
 use Rattle.record_half.proofs.Back.{half-back}
 use Rattle.record_write.specs.Bytes.{atFirst, atSecond, atThird, atFourth, atBase, atSelected, atHold, atHalf, atUpper, atLower}
-use Rattle.record_write.specs.Bytes.{low, high, windowsBytes, holdBytes, tailBytes, encoded}
+use Rattle.record_write.specs.Bytes.{low, high, stateLength, windowsBytes, holdBytes, tailBytes, encoded, recordOf}
+use Rattle.record_write.proofs.Laid.{encoded-length}
 use Rattle.record_parts.specs.Parts.{settingsAt, cursorAt, windowFrom, spanAt, holdAt, slotsAt}
-use Rattle.record_read.specs.Record.{decoded, same, broken, stateOf}
+use Rattle.record_read.specs.Record.{decoded, same, broken, stateOf, stateIn, storeIn}
 use Rattle.record_read.proofs.Same.{same-self, same-eq}
 
 -- ---- the parts
@@ -67,10 +70,10 @@ four (a ∷ b ∷ c ∷ d ∷ []) e = refl
 four (a ∷ b ∷ c ∷ d ∷ f ∷ ws) e = absurd (omega arith)
 
 slots-back : (t : Slots)
-    → slots (t .case) (t .a) (t .b) (t .c) (word (t .p)) (word (t .q)) (word (t .r)) (word (t .s)) ≡ t
+    → slots (t .case) (t .a) (t .b) (t .c) (t .d) (word (t .p)) (word (t .q)) (word (t .r)) (word (t .s)) (t .columns) ≡ t
 slots-back t = rw (word-back (t .p), word-back (t .q), word-back (t .r), word-back (t .s))
 
--- ---- the record
+-- ---- the state's bytes
 
 -- a state by its fields
 abbrev state : Settings → List Window → Cursor → ℕ → Hold → Half → List Span → State
@@ -150,7 +153,7 @@ module _ (s : State) where
         two-spans (s .spans) (z .spans),
       )
 
--- ---- the state that a record stands for
+-- ---- the state that bytes stand for
 
 -- whatever the bytes, it has four windows and two spans
 pub record-sized : (l : List ℕ) → Sized panel (stateOf l)
@@ -159,29 +162,50 @@ record-sized l =
     by-cond (λ (s : State). Sized panel s) (same (encoded (decoded l)) l)
     (λ _. record { windows = refl; spans = refl }) (λ _. record { windows = refl; spans = refl })
 
--- a state's record stands for it
+-- a state's bytes stand for it
 pub read-back : (s : State) → Sized panel s → stateOf (encoded s) ≡ s
 unfolding stateOf
 read-back s z = rw (back s z, same-self (encoded s))
 
 -- there is no window 5
-broken-refused : (g : Module) (s : State) → accepted g (broken s) ≡ false
-unfolding accepted selectable
+broken-refused : (g : Module) (s : State) → stateOk g (broken s) ≡ false
+unfolding stateOk selectable
 broken-refused g s = simp and-false
+
+-- bytes that stand for a state within its bounds are its encoding
+own-bytes : (g : Module) (l : List ℕ) → stateOk g (stateOf l) ≡ true → l ≡ encoded (stateOf l)
+unfolding stateOf
+own-bytes g l =
+    by-cond (λ (s : State). stateOk g s ≡ true → l ≡ encoded s) (same (encoded (decoded l)) l)
+    (λ h _. sym (same-eq (encoded (decoded l)) l h))
+    (λ _ h. absurd (true≢false (sym h ∙ broken-refused g (decoded l))))
+
+-- ---- with the downloads
+
+-- what a record was made of
+pub state-part : (s : State) (ds : List ℕ) → take stateLength (recordOf s ds) ≡ encoded s
+state-part s ds = take-at (encoded s) ds stateLength (encoded-length s)
+
+pub state-back : (s : State) (ds : List ℕ) → Sized panel s → stateIn (recordOf s ds) ≡ s
+state-back s ds z = ap stateOf (state-part s ds) ∙ read-back s z
+
+pub store-back : (s : State) (ds : List ℕ) → storeIn (recordOf s ds) ≡ ds
+store-back s ds = drop-at (encoded s) ds stateLength (encoded-length s)
 
 not-so : (t : Bool) → (t ≡ true → ⊥) → t ≡ false
 not-so true never = absurd (never refl)
 not-so false never = refl
 
 module _ (g : Module) (l : List ℕ) where
-  -- a record that stands for an accepted state is its encoding
-  pub accepted-record : accepted g (stateOf l) ≡ true → l ≡ encoded (stateOf l)
-  unfolding stateOf
-  accepted-record =
-      by-cond (λ (s : State). accepted g s ≡ true → l ≡ encoded s) (same (encoded (decoded l)) l)
-      (λ h _. sym (same-eq (encoded (decoded l)) l h))
-      (λ _ h. absurd (true≢false (sym h ∙ broken-refused g (decoded l))))
+  -- a record that stands for an accepted state is that state's, with these downloads
+  pub accepted-record : accepted g (stateIn l) (storeIn l) ≡ true → l ≡ recordOf (stateIn l) (storeIn l)
+  unfolding accepted
+  accepted-record h =
+      sym (take-append-drop stateLength l)
+      ∙ ap (λ (a : List ℕ). a ++ storeIn l) (own-bytes g (take stateLength l) (both-of (stateOk g (stateIn l)) _ h .0))
 
   -- any other bytes stand for a state that is not accepted
-  pub other-bytes : ((s : State) → accepted g s ≡ true → l ≡ encoded s → ⊥) → accepted g (stateOf l) ≡ false
-  other-bytes never = not-so (accepted g (stateOf l)) (λ h. never (stateOf l) h (accepted-record h))
+  pub other-bytes : ((s : State) (ds : List ℕ) → accepted g s ds ≡ true → l ≡ recordOf s ds → ⊥)
+      → accepted g (stateIn l) (storeIn l) ≡ false
+  other-bytes never =
+      not-so (accepted g (stateIn l) (storeIn l)) (λ h. never (stateIn l) (storeIn l) h (accepted-record h))

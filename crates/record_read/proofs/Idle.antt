@@ -1,4 +1,4 @@
--- A record with nothing held and nothing half read: its bytes are its state's own. Assumes nothing.
+-- Bytes with nothing held and nothing half read: they are their state's own. Assumes nothing.
 use Prim.Native.Nat.{ℕ, zero, suc, _+_, _<_, _≤_}
 use native.Mathlib.Omega.{arith}
 use mathlib.Core.Path.{_≡_, refl, ap₂, _∙_}
@@ -9,11 +9,12 @@ use lib.Dec.{eqb}
 use borrow.Author.Tests.{eqb-true, eqb-false}
 use Rattle.paper.specs.declared.Hold.the-variants.{Free}
 use Rattle.paper.specs.declared.Half.the-variants.{Nothing}
+use Rattle.paper.specs.Panel.{bytesFrom}
 use Rattle.laws_bytes.proofs.Tests.{both-of}
 use Rattle.record_half.specs.Slots.{halfSlots, halfOf}
-use Rattle.record_write.specs.Bytes.{holdLength, halfLength, atHold, atHalf, recordLength, holdBytes, encoded}
+use Rattle.record_write.specs.Bytes.{holdLength, halfLength, atHold, atHalf, stateLength, holdBytes, encoded}
 use Rattle.record_parts.specs.Parts.{holdAt, slotsAt, decodedWith}
-use Rattle.record_read.specs.Record.{reads, decoded, Idle, same, stateOf}
+use Rattle.record_read.specs.Record.{decoded, Idle, same, stateOf}
 use Rattle.record_read.proofs.Written.{parts-decide}
 use Rattle.record_read.proofs.Stands.{stands}
 
@@ -31,13 +32,13 @@ idle-more {r} l j so-far t k low high = go (eqb k j) refl where
 -- ---- what it stands for
 
 -- a part of it is zeros
-zero-same : (n i : ℕ) (l : List ℕ) → ((k : ℕ) → i ≤ k → k < i + n → getD l k 0 ≡ 0) → same (replicate n 0) (reads n i l) ≡ true
+zero-same : (n i : ℕ) (l : List ℕ) → ((k : ℕ) → i ≤ k → k < i + n → getD l k 0 ≡ 0) → same (replicate n 0) (bytesFrom n i l) ≡ true
 zero-same zero i l h = refl
 zero-same (suc n) i l h =
     rw (h i (omega arith) (omega arith)) (zero-same n (suc i) l (λ k a b. h k (omega arith) (omega arith)))
 
-module _ (l : List ℕ) (bytes : (k : ℕ) → getD l k 0 < 256) (long : length l ≡ recordLength) (idle : Idle l) where
-  -- its bytes are its state's own
+module _ (l : List ℕ) (bytes : (k : ℕ) → getD l k 0 < 256) (long : length l ≡ stateLength) (idle : Idle l) where
+  -- they are their state's own
   idle-same : same (encoded (decodedWith l Free Nothing)) l ≡ true
   unfolding holdBytes halfSlots
   idle-same =
@@ -49,6 +50,6 @@ module _ (l : List ℕ) (bytes : (k : ℕ) → getD l k 0 < 256) (long : length 
   unfolding decoded holdAt slotsAt halfOf
   decoded-idle = rw (idle atHold (omega arith) (omega arith), idle atHalf (omega arith) (omega arith))
 
-  -- the record stands for that state
+  -- they stand for that state
   pub idle-stands : decodedWith l Free Nothing ≡ stateOf l
   idle-stands = stands l decoded-idle refl idle-same

@@ -9,14 +9,15 @@ use lib.Seq.{take-all}
 use native.Mathlib.Omega.{arith}
 use native.Mathlib.Numerals.{add-one}
 use borrow.Author.Tests.{eq-eqb, eqb-true}
+use Rattle.paper.specs.Panel.{bytesFrom}
 use Rattle.laws_bytes.proofs.Tests.{both-of}
-use Rattle.record_read.specs.Record.{reads, same}
+use Rattle.record_read.specs.Record.{same}
 
 -- ---- a list and a part of another, byte by byte
 
 -- one more byte of each
 same-more : (a l : List ℕ) (at i : ℕ) → i < length a
-    → (same (take i a) (reads i at l) && eqb (getD a i 0) (getD l (at + i) 0)) ≡ same (take (suc i) a) (reads (suc i) at l)
+    → (same (take i a) (bytesFrom i at l) && eqb (getD a i 0) (getD l (at + i) 0)) ≡ same (take (suc i) a) (bytesFrom (suc i) at l)
 same-more [] l at i h = absurd (omega arith)
 same-more (x ∷ a) l at zero h =
     let n : at + 0 ≡ at = omega arith in
@@ -24,19 +25,19 @@ same-more (x ∷ a) l at zero h =
 same-more (x ∷ a) l at (suc i) h =
     let n : at + suc i ≡ suc at + i = omega arith in
     rw n
-    (and-assoc (eqb x (getD l at 0)) (same (take i a) (reads i (suc at) l)) (eqb (getD a i 0) (getD l (suc at + i) 0))
+    (and-assoc (eqb x (getD l at 0)) (same (take i a) (bytesFrom i (suc at) l)) (eqb (getD a i 0) (getD l (suc at + i) 0))
     ∙ ap (λ (t : Bool). eqb x (getD l at 0) && t) (same-more a l (suc at) i (omega arith)))
 
 -- what a loop over both knows of the bytes so far, with one more byte, and at the end
-pub same-next : {r : Bool} (a l : List ℕ) (at i : ℕ) → i < length a → r ≡ same (take i a) (reads i at l)
-    → (r && eqb (getD a i 0) (getD l (at + i) 0)) ≡ same (take (i + 1) a) (reads (i + 1) at l)
+pub same-next : {r : Bool} (a l : List ℕ) (at i : ℕ) → i < length a → r ≡ same (take i a) (bytesFrom i at l)
+    → (r && eqb (getD a i 0) (getD l (at + i) 0)) ≡ same (take (i + 1) a) (bytesFrom (i + 1) at l)
 same-next a l at i h e = rw (e, add-one) (same-more a l at i h)
 
-pub same-all : {r : Bool} (a l : List ℕ) (at i : ℕ) → length a ≤ i → i ≤ length a → r ≡ same (take i a) (reads i at l)
-    → r ≡ same a (reads (length a) at l)
+pub same-all : {r : Bool} (a l : List ℕ) (at i : ℕ) → length a ≤ i → i ≤ length a → r ≡ same (take i a) (bytesFrom i at l)
+    → r ≡ same a (bytesFrom (length a) at l)
 same-all a l at i h k e =
     let n : i ≡ length a = omega arith in
-    e ∙ ap₂ same (take-all i a h) (ap (λ (n : ℕ). reads n at l) n)
+    e ∙ ap₂ same (take-all i a h) (ap (λ (n : ℕ). bytesFrom n at l) n)
 
 -- ---- it is equality
 

@@ -1,4 +1,4 @@
--- What a record stands for, by the test of its bytes. Assumes nothing.
+-- What bytes stand for, by the test of them. Assumes nothing.
 use Prim.Native.Nat.{ℕ}
 use mathlib.Core.Path.{_≡_, ap, _∙_}
 use mathlib.Core.Bool.{Bool, true, false}
@@ -16,7 +16,7 @@ use Rattle.record_parts.specs.Parts.{holdAt, slotsAt, decodedWith}
 use Rattle.record_read.specs.Record.{decoded, same, broken, stateOf}
 
 module _ (l : List ℕ) {s : State} {t : Bool} (d : s ≡ decoded l) (e : t ≡ same (encoded s) l) where
-  -- the bytes of its state are the record's
+  -- the bytes of their state are the same
   pub stands : t ≡ true → s ≡ stateOf l
   unfolding stateOf
   stands g = rw (← d, ← e, g)
@@ -26,7 +26,7 @@ module _ (l : List ℕ) {s : State} {t : Bool} (d : s ≡ decoded l) (e : t ≡ 
   unfolding stateOf
   stands-broken g = rw (← d, ← e, g)
 
--- the record read with nothing held or half read, and then what is
+-- read with nothing held or half read, and then what is
 module _
     (l : List ℕ) {s : State} {hold : Hold} {half : Half} {slots : Slots} {t : Bool}
     (d : s ≡ decodedWith l Free Nothing) (h : hold ≡ holdAt l atHold) (p : half ≡ halfOf slots) (q : slots ≡ slotsAt l atHalf)

@@ -1,13 +1,15 @@
-// The record read: the state that a record of 103 bytes stands for. docs/RECORD.md has the layout.
+// The record read: the state that its first 115 bytes stand for; the downloads, which follow, are read as they are. docs/RECORD.md has
+// the layout.
 // It uses the paper, record_parts for what the bytes give, record_half for what is half read, and record_write, to see whether the
 // bytes are those of a state.
 ghost use mathlib.Core.Path.{_≡_};
 ghost use mathlib.Core.Bool.{true};
 ghost use Prim.Native.Nat.{_+_, _≤_};
 ghost use lib.ListN.{length};
-ghost use Rattle.record_write.specs.Bytes.{recordLength, encoded};
+ghost use Rattle.paper.specs.Panel.{bytesFrom};
+ghost use Rattle.record_write.specs.Bytes.{stateLength, encoded};
 ghost use Rattle.record_parts.specs.Parts.{decodedWith};
-ghost use Rattle.record_read.specs.Record.{reads, Idle, same, stateOf};
+ghost use Rattle.record_read.specs.Record.{Idle, same, stateOf};
 use paper::Half;
 use paper::Hold;
 use paper::State;
@@ -15,10 +17,10 @@ use record_write::AT_HALF;
 use record_write::AT_HOLD;
 use record_write::AT_UPPER;
 
-// Whether a part of a record, from `at` on, is these bytes.
+// Whether a part of l, from `at` on, is these bytes.
 fn is_at(a: &[u8], l: &[u8], at: usize) -> bool
     requires { ⌜ at + length (now a) ≤ length (now l) ⌝ }
-    ensures { λ r. ⌜ r ≡ same (now (a .entry)) (reads (length (now (a .entry))) at (now (l .entry))) ⌝ }
+    ensures { λ r. ⌜ r ≡ same (now (a .entry)) (bytesFrom (length (now (a .entry))) at (now (l .entry))) ⌝ }
 {
     let mut r = true;
     for i in 0..a.len() {
@@ -27,9 +29,9 @@ fn is_at(a: &[u8], l: &[u8], at: usize) -> bool
     r
 }
 
-// Whether a record is the one of its state, with this held and this half read: only their bytes can be others.
+// Whether bytes are those of their state, with this held and this half read: only the bytes of these two can be others.
 fn is_written(l: &[u8], hold: Hold, half: Half) -> bool
-    requires { ⌜ length (now l) ≡ recordLength ⌝ }
+    requires { ⌜ length (now l) ≡ stateLength ⌝ }
     ensures { λ r. ⌜ r ≡ same (encoded (decodedWith (now (l .entry)) hold half)) (now (l .entry)) ⌝ }
 {
     let held = record_write::hold_bytes(hold);
@@ -39,7 +41,7 @@ fn is_written(l: &[u8], hold: Hold, half: Half) -> bool
 
 // Whether the bytes of what is held and of what is half read are all 0.
 fn is_idle(l: &[u8]) -> bool
-    requires { ⌜ length (now l) ≡ recordLength ⌝ }
+    requires { ⌜ length (now l) ≡ stateLength ⌝ }
     ensures { λ r. ⌜ (r ≡ true → Idle (now (l .entry))) ⌝ }
 {
     let mut r = true;
@@ -49,10 +51,10 @@ fn is_idle(l: &[u8]) -> bool
     r
 }
 
-// The state that a record stands for: bytes that no state is encoded by stand for a broken one, which every call refuses. With nothing
+// The state that bytes stand for: those that no state is encoded by stand for a broken one, which every call refuses. With nothing
 // held or half read there are no such bytes.
 pub fn state_of(l: &[u8]) -> State
-    requires { ⌜ length (now l) ≡ recordLength ⌝ }
+    requires { ⌜ length (now l) ≡ stateLength ⌝ }
     ensures { λ s. ⌜ s ≡ stateOf (now (l .entry)) ⌝ }
 {
     let s = record_parts::decode_with(l, Hold::Free, Half::Nothing);

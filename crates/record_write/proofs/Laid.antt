@@ -1,4 +1,4 @@
--- A record's parts, put one after the other, are the record; other spans change its end alone. Assumes nothing.
+-- A state's parts, put one after the other, are the state's bytes; other spans change their end alone. Assumes nothing.
 use Prim.Native.Nat.{ℕ, suc, _+_, _-_, _<_, _≤_}
 use mathlib.Core.Path.{_≡_, refl, sym, ap, _∙_}
 use mathlib.Core.List.{List, [], _++_, append-assoc, append-nil}
@@ -15,8 +15,9 @@ use Rattle.paper.specs.declared.Half.{Half}
 use Rattle.paper.specs.declared.Hold.{Hold}
 use Rattle.paper.specs.declared.Hold.the-variants.{Free, Held}
 use Rattle.paper.specs.declared.State.{State}
+use Rattle.paper.specs.Downloads.{storeLength}
 use Rattle.paper.specs.Settings.{makeState, withSpans}
-use Rattle.record_write.specs.Bytes.{holdLength, atBase, recordLength, holdBytes, windowsBytes, spansInto, tailBytes, encoded}
+use Rattle.record_write.specs.Bytes.{holdLength, atBase, stateLength, recordLength, holdBytes, windowsBytes, spansInto, tailBytes, encoded, recordOf}
 use Rattle.record_write.specs.Parts.{Put}
 
 -- ---- a part, byte by byte
@@ -25,7 +26,7 @@ use Rattle.record_write.specs.Parts.{Put}
 pub nothing-copied : (to : List ℕ) (at : ℕ) → take (at + 0) to ≡ take at to ++ []
 nothing-copied to at = rw (add-zero, append-nil)
 
--- one byte more: `to₀` is the record before the copy, `to` the one with j bytes of `src` in it
+-- one byte more: `to₀` is what was there before the copy, `to` the one with j bytes of `src` in it
 pub copied-more : (to₀ to src : List ℕ) (at j : ℕ) → at + j < length to → j < length src
     → take (at + j) to ≡ take at to₀ ++ take j src
     → take (at + (j + 1)) (set to (at + j) (getD src j 0)) ≡ take at to₀ ++ take (j + 1) src
@@ -51,11 +52,11 @@ pub after : {at next : ℕ} {l m r a b : List ℕ} → at + length a ≡ next �
 after {at} {next} {l} {m} {r} {a} {b} e p q =
     record { said = rw (length-append, ← add-assoc, e, q .said, ← e, p .said, append-assoc) }
 
--- the whole record
+-- all of them
 pub whole : {l r x : List ℕ} (n : ℕ) → length r ≡ n → length x ≡ n → Put 0 l r x → r ≡ x
 whole {l} {r} {x} n e f p = sym (take-all (length x) r (omega arith)) ∙ rw zero-add at (p .said)
 
--- a part that ends the record: what was before it, and the part
+-- a part that ends them: what was before it, and the part
 pub ended : {at : ℕ} {l r x : List ℕ} → length r ≡ at + length x → Put at l r x → r ≡ take at l ++ x
 ended {at} {l} {r} {x} e p = sym (take-all (at + length x) r (omega arith)) ∙ p .said
 
@@ -72,13 +73,16 @@ unfolding holdBytes
 hold-length Free = refl
 hold-length (Held k back v) = refl
 
-tail-length : (s : State) → length (tailBytes s) ≡ recordLength - atBase
+tail-length : (s : State) → length (tailBytes s) ≡ stateLength - atBase
 unfolding tailBytes
 tail-length s = rw (length-append (holdBytes (s .hold)), hold-length (s .hold))
 
-pub encoded-length : (s : State) → length (encoded s) ≡ recordLength
+pub encoded-length : (s : State) → length (encoded s) ≡ stateLength
 unfolding encoded windowsBytes
 encoded-length s = rw (tail-length s)
+
+pub record-length : (s : State) (ds : List ℕ) → length ds ≡ storeLength → length (recordOf s ds) ≡ recordLength
+record-length s ds e = rw (length-append (encoded s) ds, encoded-length s, e)
 
 -- ---- the spans
 
@@ -89,6 +93,6 @@ unfolding encoded windowsBytes tailBytes holdBytes
 spans-last v ws k n Free p ps qs = refl
 spans-last v ws k n (Held a b u) p ps qs = refl
 
--- a state's record with other spans is the record of the state with these
+-- a state's bytes with other spans are those of the state with these
 pub spans-into : (s : State) (ps : List Span) → spansInto (encoded s) ps ≡ encoded (withSpans s ps)
 spans-into s ps = spans-last (s .settings) (s .windows) (s .base) (s .selected) (s .hold) (s .half) (s .spans) ps

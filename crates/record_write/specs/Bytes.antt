@@ -1,4 +1,5 @@
--- The state as a record of 103 bytes, for C. docs/RECORD.md has the same as a table. Assumes nothing.
+-- The record of 259 bytes, for C: the state as 115 bytes, and after them the downloads, which are their own bytes. docs/RECORD.md has
+-- the same as a table. Assumes nothing.
 use Prim.Native.Nat.{ℕ, _+_, _/_, _%_}
 use mathlib.Core.List.{List, [], _∷_, _++_}
 use lib.ListN.{getD, take, replicate}
@@ -6,9 +7,11 @@ use Rattle.paper.specs.declared.Settings.{Settings}
 use Rattle.paper.specs.declared.Cursor.{Cursor}
 use Rattle.paper.specs.declared.Window.{Window}
 use Rattle.paper.specs.declared.Span.{Span}
+use Rattle.paper.specs.declared.Columns.{Columns}
 use Rattle.paper.specs.declared.Hold.{Hold}
 use Rattle.paper.specs.declared.Hold.the-variants.{Free, Held}
 use Rattle.paper.specs.declared.State.{State}
+use Rattle.paper.specs.Downloads.{storeLength}
 use Rattle.paper.specs.Strokes.{noSpan}
 use Rattle.paper.specs.Settings.{windowAt}
 use Rattle.record_half.specs.declared.Slots.{Slots}
@@ -18,7 +21,7 @@ use Rattle.record_half.specs.Slots.{halfSlots}
 
 -- how long each part is
 abbrev pub settingsLength : ℕ
-settingsLength = 11
+settingsLength = 12
 
 abbrev pub cursorLength : ℕ
 cursorLength = 5
@@ -32,8 +35,11 @@ baseLength = cursorLength + 1
 abbrev pub holdLength : ℕ
 holdLength = 3 + settingsLength
 
+abbrev pub columnsLength : ℕ
+columnsLength = 9
+
 abbrev pub halfLength : ℕ
-halfLength = 12
+halfLength = 13 + columnsLength
 
 abbrev pub spanLength : ℕ
 spanLength = 4
@@ -41,7 +47,7 @@ spanLength = 4
 abbrev pub spansLength : ℕ
 spansLength = spanLength + spanLength
 
--- where each begins, one after the other, and where the last one ends
+-- where each begins, one after the other
 abbrev pub atFirst : ℕ
 atFirst = settingsLength
 
@@ -72,8 +78,12 @@ atUpper = atHalf + halfLength
 abbrev pub atLower : ℕ
 atLower = atUpper + spanLength
 
+-- how long the state is, and the record with the downloads after it
+abbrev pub stateLength : ℕ
+stateLength = atUpper + spansLength
+
 abbrev pub recordLength : ℕ
-recordLength = atUpper + spansLength
+recordLength = stateLength + storeLength
 
 -- ---- the bytes
 
@@ -93,6 +103,7 @@ settingsBytes v =
     ∷ v .speed
     ∷ v .width
     ∷ v .write
+    ∷ v .switch
     ∷ v .style .reverse
     ∷ v .style .mixing
     ∷ v .style .across
@@ -127,12 +138,16 @@ unfoldable pub holdBytes : Hold → List ℕ
 holdBytes Free = replicate holdLength 0
 holdBytes (Held k back v) = 1 ∷ k ∷ back ∷ settingsBytes v
 
+abbrev pub columnsBytes : Columns → List ℕ
+columnsBytes c = c .width ∷ c .come ∷ c .c0 ∷ c .c1 ∷ c .c2 ∷ c .c3 ∷ c .c4 ∷ c .c5 ∷ c .c6 ∷ []
+
 abbrev pub slotBytes : Slots → List ℕ
 slotBytes t =
     t .case
     ∷ t .a
     ∷ t .b
     ∷ t .c
+    ∷ t .d
     ∷ low (t .p)
     ∷ high (t .p)
     ∷ low (t .q)
@@ -141,7 +156,7 @@ slotBytes t =
     ∷ high (t .r)
     ∷ low (t .s)
     ∷ high (t .s)
-    ∷ []
+    ∷ columnsBytes (t .columns)
 
 abbrev pub spanBytes : Span → List ℕ
 spanBytes p = low (p .first) ∷ high (p .first) ∷ low (p .end) ∷ high (p .end) ∷ []
@@ -149,7 +164,7 @@ spanBytes p = low (p .first) ∷ high (p .first) ∷ low (p .end) ∷ high (p .e
 abbrev pub spansBytes : List Span → List ℕ
 spansBytes ps = spanBytes (getD ps 0 noSpan) ++ spanBytes (getD ps 1 noSpan)
 
--- a record with these spans: the bytes before them stay as they are
+-- a state's bytes with these spans: the bytes before them stay as they are
 abbrev pub spansInto : List ℕ → List Span → List ℕ
 spansInto l ps = take atUpper l ++ spansBytes ps
 
@@ -161,3 +176,7 @@ tailBytes s =
 
 unfoldable pub encoded : State → List ℕ
 encoded s = settingsBytes (s .settings) ++ (windowsBytes (s .windows) ++ tailBytes s)
+
+-- the record
+abbrev pub recordOf : State → List ℕ → List ℕ
+recordOf s ds = encoded s ++ ds

@@ -1,4 +1,4 @@
--- A record is written part by part, from its beginning. Assumes nothing.
+-- A state's bytes are written part by part, from their beginning. Assumes nothing.
 use Prim.Native.Nat.{ℕ, _+_}
 use mathlib.Core.Path.{_≡_}
 use mathlib.Core.List.{List, _++_}

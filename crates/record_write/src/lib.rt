@@ -1,11 +1,11 @@
-// The record written: a state as a record of 103 bytes, for C. docs/RECORD.md has the layout.
+// The record written: a state as 115 bytes, for C. In the record the downloads follow, as their own bytes. docs/RECORD.md has the layout.
 // It uses the paper, and record_half for what is half read.
 ghost use mathlib.Core.Path.{_≡_};
 ghost use Prim.Native.Nat.{_+_, _≤_};
 ghost use lib.ListN.{length};
 ghost use Rattle.record_half.specs.Slots.{halfSlots};
 ghost use Rattle.record_write.specs.Parts.{Put};
-ghost use Rattle.record_write.specs.Bytes.{atFirst, atBase, recordLength, settingsBytes, windowBytes, windowsBytes, baseBytes, holdBytes, slotBytes, spansBytes, spansInto, tailBytes, encoded};
+ghost use Rattle.record_write.specs.Bytes.{atFirst, atBase, stateLength, settingsBytes, windowBytes, windowsBytes, baseBytes, holdBytes, slotBytes, spansBytes, spansInto, tailBytes, encoded};
 use paper::Cursor;
 use paper::Half;
 use paper::Hold;
@@ -18,7 +18,7 @@ use record_half::Slots;
 // ---- the layout, as specs/Bytes has it
 
 // How long each part is.
-pub const SETTINGS: usize = 11;
+pub const SETTINGS: usize = 12;
 
 pub const CURSOR: usize = 5;
 
@@ -28,13 +28,15 @@ pub const BASE: usize = CURSOR + 1;
 
 pub const HOLD: usize = 3 + SETTINGS;
 
-pub const HALF: usize = 12;
+pub const COLUMNS: usize = 9;
+
+pub const HALF: usize = 13 + COLUMNS;
 
 pub const SPAN: usize = 4;
 
 pub const SPANS: usize = SPAN + SPAN;
 
-// Where each begins, one after the other, and where the last one ends.
+// Where each begins, one after the other.
 pub const AT_FIRST: usize = SETTINGS;
 
 pub const AT_SECOND: usize = AT_FIRST + WINDOW;
@@ -55,7 +57,12 @@ pub const AT_UPPER: usize = AT_HALF + HALF;
 
 pub const AT_LOWER: usize = AT_UPPER + SPAN;
 
-pub const RECORD: usize = AT_UPPER + SPANS;
+// How long the state is, the downloads, and the record of both.
+pub const STATE: usize = AT_UPPER + SPANS;
+
+pub const STORE: usize = 144;
+
+pub const RECORD: usize = STATE + STORE;
 
 // ---- the bytes
 
@@ -72,6 +79,7 @@ fn settings_bytes(v: Settings) -> [u8; SETTINGS]
         v.speed,
         v.width,
         v.write,
+        v.switch,
         y.reverse,
         y.mixing,
         y.across,
@@ -138,6 +146,7 @@ pub fn hold_bytes(hold: Hold) -> [u8; HOLD]
                 settings.speed,
                 settings.width,
                 settings.write,
+                settings.switch,
                 y.reverse,
                 y.mixing,
                 y.across,
@@ -151,11 +160,13 @@ pub fn hold_bytes(hold: Hold) -> [u8; HOLD]
 pub fn slot_bytes(t: Slots) -> [u8; HALF]
     ensures { λ r. ⌜ r ≡ slotBytes t ⌝ }
 {
+    let c = t.columns;
     [
         t.case,
         t.a,
         t.b,
         t.c,
+        t.d,
         (t.p % 256) as u8,
         (t.p / 256) as u8,
         (t.q % 256) as u8,
@@ -164,6 +175,15 @@ pub fn slot_bytes(t: Slots) -> [u8; HALF]
         (t.r / 256) as u8,
         (t.s % 256) as u8,
         (t.s / 256) as u8,
+        c.width,
+        c.come,
+        c.c0,
+        c.c1,
+        c.c2,
+        c.c3,
+        c.c4,
+        c.c5,
+        c.c6,
     ]
 }
 
@@ -195,7 +215,7 @@ fn spans_bytes(ps: Spans) -> [u8; SPANS]
     ]
 }
 
-// Copies a part into the record.
+// Copies a part into the state's bytes.
 fn put(src: &[u8], to: &mut [u8], at: usize)
     requires { ⌜ at + length (now src) ≤ length (now to) ⌝ }
     ensures { λ r. ⌜ Put at (now (to .entry)) (now (to .exit)) (now (src .entry)) ⌝ }
@@ -207,7 +227,7 @@ fn put(src: &[u8], to: &mut [u8], at: usize)
 
 // Puts the four user windows, after the settings.
 fn put_windows(ws: [Window; 4], to: &mut [u8])
-    requires { ⌜ length (now to) ≡ recordLength ⌝ }
+    requires { ⌜ length (now to) ≡ stateLength ⌝ }
     ensures { λ r. ⌜ Put atFirst (now (to .entry)) (now (to .exit)) (windowsBytes ws) ⌝ }
 {
     let a = window_bytes(ws[0]);
@@ -220,9 +240,9 @@ fn put_windows(ws: [Window; 4], to: &mut [u8])
     put(&d, to, AT_FOURTH);
 }
 
-// Writes the spans into a record, which they end, and leaves all before them.
+// Writes the spans into a state's bytes, which they end, and leaves all before them.
 pub fn put_spans(ps: Spans, to: &mut [u8])
-    requires { ⌜ length (now to) ≡ recordLength ⌝ }
+    requires { ⌜ length (now to) ≡ stateLength ⌝ }
     ensures { λ r. ⌜ now (to .exit) ≡ spansInto (now (to .entry)) ps ⌝ }
 {
     let a = spans_bytes(ps);
@@ -231,7 +251,7 @@ pub fn put_spans(ps: Spans, to: &mut [u8])
 
 // Puts what follows the windows.
 fn put_tail(s: State, to: &mut [u8])
-    requires { ⌜ length (now to) ≡ recordLength ⌝ }
+    requires { ⌜ length (now to) ≡ stateLength ⌝ }
     ensures { λ r. ⌜ Put atBase (now (to .entry)) (now (to .exit)) (tailBytes s) ⌝ }
 {
     let base = s.base;
@@ -247,9 +267,9 @@ fn put_tail(s: State, to: &mut [u8])
     put_spans(spans, to);
 }
 
-// Writes a state as a record.
+// Writes a state as bytes.
 pub fn encode(s: State, to: &mut [u8])
-    requires { ⌜ length (now to) ≡ recordLength ⌝ }
+    requires { ⌜ length (now to) ≡ stateLength ⌝ }
     ensures { λ r. ⌜ now (to .exit) ≡ encoded s ⌝ }
 {
     let settings = s.settings;

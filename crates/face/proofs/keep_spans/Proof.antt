@@ -1,16 +1,32 @@
 -- `keep_spans` meets its contract: it writes the spans into the record, or leaves it. Assumes nothing.
 use borrow.Author.Needs.{needs}
 use borrow.Author.Tests.{eq-eqb, ne-eqb}
+use denote.Ref.{now}
+use mathlib.Core.Path.{sym, ap}
+use mathlib.Core.List.{List, _++_}
+use Prim.Native.Nat.{ℕ}
+use Rattle.record_read.specs.Record.{storeIn}
 use Rattle.face.specs.Face.{spansAfter}
+use Rattle.face.proofs.Parts.{state-long}
 use Rattle.face.proofs.keep_spans.Statement.{statement}
 use Rattle.face.proofs.keep_spans.Tie as tie
+
+returns : tie.Need-returns
+unfolding spansAfter
+returns c =
+    let putting = c .before .before in
+    let tested = putting .before .before in
+    let to = now (tested .before .before .args .to) in
+    rw (eq-eqb _ _ (tested .if1 .taken)) (ap (λ (x : List ℕ). x ++ storeIn to) (putting .put-spans .ensures))
 
 pub keep-spans-spec : {M : Type 1} → statement M
 unfolding spansAfter
 keep-spans-spec =
     tie.close
     (tie.spec
-    (λ c κs. search needs)
     (λ c. search needs)
-    (λ c. rw (eq-eqb _ _ (c .before .before .before .before .if1 .taken)) (c .before .before .put-spans .ensures))
+    (λ c. let start = c .before .before .before in sym (state-long (now (start .args .to)) (start .pre)))
+    (λ c κs. let start = c .before .before .before in state-long (now (start .args .to)) (start .pre))
+    (λ c. search needs)
+    returns
     (λ c. rw (ne-eqb _ _ (c .if1 .left))))

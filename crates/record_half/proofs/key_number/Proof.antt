@@ -17,6 +17,7 @@ key-number-spec =
     (λ c. c .match .keys7)
     (λ c. c .match .keys8)
     (λ c. c .match .keys9)
+    (λ c. c .match .keys10)
     -- what each arm gives
     (λ c. rw (c .enum-told .given .1))
     (λ c. rw (c .enum-told2 .given .1))
@@ -26,4 +27,5 @@ key-number-spec =
     (λ c. rw (c .enum-told6 .given .1))
     (λ c. rw (c .enum-told7 .given .1))
     (λ c. rw (c .enum-told8 .given .1))
-    (λ c. rw (c .enum-told9 .given .1)))
+    (λ c. rw (c .enum-told9 .given .1))
+    (λ c. rw (c .enum-told10 .given .1)))

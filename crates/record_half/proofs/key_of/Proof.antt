@@ -17,8 +17,10 @@ key-of-spec =
     (λ c. rw (c .match .keys6))
     (λ c. rw (c .match .keys7))
     (λ c. rw (c .match .keys8))
+    (λ c. rw (c .match .keys9))
     -- a number of no case is none of theirs
     (λ c. let e = c .match .rest in rw (
+      ne-eqb _ _ (e .0 .0 .0 .0 .0 .0 .0 .0 .1),
       ne-eqb _ _ (e .0 .0 .0 .0 .0 .0 .0 .1),
       ne-eqb _ _ (e .0 .0 .0 .0 .0 .0 .1),
       ne-eqb _ _ (e .0 .0 .0 .0 .0 .1),

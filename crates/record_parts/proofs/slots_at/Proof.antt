@@ -17,6 +17,10 @@ slots-at-spec =
     (λ c. search needs)
     (λ c. search needs)
     (λ c. search needs)
+    (λ c. search needs)
+    (λ c. search needs)
+    (λ c κs. search needs)
+    (λ c. search needs)
     (λ c κs. search needs)
     (λ c. search needs)
     (λ c κs. search needs)
@@ -25,8 +29,9 @@ slots-at-spec =
     (λ c. search needs)
     (λ c κs. search needs)
     (λ c. rw (
-      c .before .before .before .word-at .ensures,
-      c .before .before .word-at2 .ensures,
-      c .before .word-at3 .ensures,
-      c .word-at4 .ensures,
+      c .before .before .before .before .word-at .ensures,
+      c .before .before .before .word-at2 .ensures,
+      c .before .before .word-at3 .ensures,
+      c .before .word-at4 .ensures,
+      c .columns-at .ensures,
     )))

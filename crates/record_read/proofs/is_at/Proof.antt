@@ -4,13 +4,14 @@ use mathlib.Core.Path.{_≡_, refl}
 use lib.ListN.{length, take}
 use native.Mathlib.Omega.{arith}
 use denote.Ref.{now}
-use Rattle.record_read.specs.Record.{reads, same}
+use Rattle.paper.specs.Panel.{bytesFrom}
+use Rattle.record_read.specs.Record.{same}
 use Rattle.record_read.proofs.Same.{same-next, same-all}
 use Rattle.record_read.proofs.is_at.Statement.{statement}
 use Rattle.record_read.proofs.is_at.Tie as tie
 
 abbrev Inv-loop : tie.InvT-loop
-Inv-loop a l at r₀ i₀ i-end r i = (i ≤ length a) × (r ≡ same (take i a) (reads i at l))
+Inv-loop a l at r₀ i₀ i-end r i = (i ≤ length a) × (r ≡ same (take i a) (bytesFrom i at l))
 
 abbrev μ-loop : tie.MeasureT-loop
 μ-loop a l at r₀ i₀ i-end r i = length a - i

@@ -1,4 +1,4 @@
--- `is_written` meets its contract: the record's other bytes are those of its state. Assumes nothing.
+-- `is_written` meets its contract: the other bytes are those of their state. Assumes nothing.
 use denote.Ref.{now}
 use borrow.Author.Needs.{needs}
 use mathlib.Core.Path.{ap, _∙_}

@@ -1,7 +1,7 @@
--- `encode` meets its contract: the settings, the windows and what follows them are the whole record. Assumes nothing.
+-- `encode` meets its contract: the settings, the windows and what follows them are all its bytes. Assumes nothing.
 use mathlib.Core.Path.{refl}
 use borrow.Author.Needs.{needs}
-use Rattle.record_write.specs.Bytes.{recordLength, encoded, windowsBytes}
+use Rattle.record_write.specs.Bytes.{stateLength, encoded, windowsBytes}
 use Rattle.record_write.proofs.Laid.{known, after, whole, encoded-length}
 use Rattle.record_write.proofs.encode.Statement.{statement}
 use Rattle.record_write.proofs.encode.Tie as tie
@@ -12,7 +12,7 @@ returns c =
     let tail = c .before .before in
     let windows = tail .before .before .before .before in
     let settings = windows .before .before .before .before in
-    whole recordLength (search needs) (encoded-length (settings .before .before .before .before .before .before .before .args .s))
+    whole stateLength (search needs) (encoded-length (settings .before .before .before .before .before .before .before .args .s))
     (after refl (known (settings .before .before .before .settings-bytes .ensures) (settings .put .ensures))
     (after refl (windows .put-windows .ensures) (tail .put-tail .ensures)))
 

@@ -1,4 +1,4 @@
--- `half_bytes` meets its contract: nothing half read is twelve zeros. Assumes nothing.
+-- `half_bytes` meets its contract: nothing half read is zeros. Assumes nothing.
 use borrow.Author.Needs.{needs}
 use mathlib.Core.Path.{ap, _∙_}
 use Rattle.record_half.specs.Slots.{halfSlots}

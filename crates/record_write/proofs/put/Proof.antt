@@ -1,4 +1,4 @@
--- `put` meets its contract: the record begins as it did, and then has what is copied so far. Assumes nothing.
+-- `put` meets its contract: the bytes begin as they did, and then have what is copied so far. Assumes nothing.
 use Prim.Native.Nat.{_+_, _-_, _≤_}
 use mathlib.Core.Path.{_≡_, refl}
 use mathlib.Core.List.{_++_}

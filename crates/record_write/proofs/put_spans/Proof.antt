@@ -1,4 +1,4 @@
--- `put_spans` meets its contract: the spans' bytes are put at the record's end. Assumes nothing.
+-- `put_spans` meets its contract: the spans' bytes are put at the end. Assumes nothing.
 use borrow.Author.Needs.{needs}
 use Rattle.record_write.proofs.Laid.{known, ended}
 use Rattle.record_write.proofs.put_spans.Statement.{statement}

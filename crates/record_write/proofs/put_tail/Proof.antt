@@ -9,7 +9,7 @@ use Rattle.record_write.proofs.Laid.{known, after, ends, hold-length}
 use Rattle.record_write.proofs.put_tail.Statement.{statement}
 use Rattle.record_write.proofs.put_tail.Tie as tie
 
--- no put has changed the record's length
+-- no put has changed the length
 put-spans-requires : tie.Need-put-spans-requires
 put-spans-requires c κs =
     let half = c .before .before .before in
