@@ -44,8 +44,8 @@ pub struct Settings {
     pub speed: u8,
     pub width: u8,
     pub write: u8,
-    pub switch: u8,
     pub style: Style,
+    pub switch: u8,
 }
 
 // A window's cursor, counted from the window's top left, and its mode, 1 to 3 for MD1 to MD3.
@@ -347,12 +347,12 @@ pub enum Hold {
 
 // All that a panel knows besides its memory and its downloads, which stand beside it: 144 bytes, lent like the memory. `selected` is 0 for the base window, whose cursor is `base`.
 pub struct State {
+    pub half: Half,
     pub settings: Settings,
     pub windows: [Window; 4],
     pub base: Cursor,
     pub selected: u8,
     pub hold: Hold,
-    pub half: Half,
     pub spans: Spans,
 }
 

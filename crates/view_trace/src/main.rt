@@ -50,6 +50,11 @@ fn main() {
     }
     let input = view_io::read_rest(&mut room);
     if input.ok {
-        trace(&font, view_text::part(&room, 0, input.bytes), &mut mem, &mut store);
+        trace(
+            &font,
+            view_text::part(&room, 0, input.bytes),
+            &mut mem,
+            &mut store,
+        );
     }
 }
