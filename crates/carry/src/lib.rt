@@ -27,9 +27,18 @@ fn carry_out(g: Module, mem: &mut [u8], store: &mut [u8], font: &[u8], s: State,
     let held = state::is_held(h);
     match c {
         Command::Character(b) => carry_dots::character(g, mem, font, store, s, b),
-        Command::Back => carry_state::back(g, s),
-        Command::Tab => carry_dots::tab(g, mem, s),
-        Command::LineFeed => carry_dots::line_feed(g, mem, s),
+        Command::Back => {
+            let d = carry_dots::step(g, mem, s, 0x08);
+            d
+        }
+        Command::Tab => {
+            let d = carry_dots::step(g, mem, s, 0x09);
+            d
+        }
+        Command::LineFeed => {
+            let d = carry_dots::step(g, mem, s, 0x0A);
+            d
+        }
         Command::Home => carry_state::home(g, s),
         Command::Clear => carry_dots::clear(g, mem, s),
         Command::Return => carry_state::carriage_return(g, s),

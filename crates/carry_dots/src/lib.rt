@@ -3,6 +3,7 @@
 // spans for what is written, and downloads for those in force and for their end.
 // Each contract says that what was done is what the paper's meaning says.
 use carry_state::Done;
+use glyphs::Cell;
 use moves::Spot;
 use paper::Command;
 use paper::Module;
@@ -21,8 +22,9 @@ ghost use Rattle.paper.specs.Settings.{withView, withSpans, viewOf};
 ghost use Rattle.paper.specs.Carry.{isHeld, commandOf, commandStore};
 ghost use Rattle.moves.specs.Does.{spot};
 ghost use Rattle.laws_memory.specs.Rectangles.{Fits};
-ghost use Rattle.laws_state.specs.Room.{Usable, InMemory};
+ghost use Rattle.laws_state.specs.Room.{Usable, InMemory, Room};
 ghost use Rattle.carry_dots.specs.Does.{Ready, Does, ImageStored};
+ghost use Rattle.carry_dots.specs.Steps.{stepCommand, Stepped};
 
 // ---- moves of the current window that write
 
@@ -63,31 +65,34 @@ pub fn character(g: Module, mem: &mut [u8], font: &[u8], store: &[u8], s: State,
     carry_state::ends(settle(s, q), Outcome::Carried)
 }
 
-// HT.
-pub fn tab(g: Module, mem: &mut [u8], s: State) -> Done
-    requires { ⌜ Ready g s (now mem) ⌝ }
-    ensures { λ r. ⌜ ((font : Faces) → Does g (now (mem .entry)) r (now (mem .exit)) (commandOf g font s Command.Tab)) ⌝ }
+// Where BS, HT or LF leads from a spot, by its byte.
+fn stepped(g: Module, mem: &mut [u8], p: Spot, cell: Cell, b: u8) -> Spot
+    requires { ⌜ Usable g × (Room g (p .view) (cell .columns) (cell .rows) × Fits g (now mem)) ⌝ }
+    ensures { λ r. ⌜ Stepped g p cell b (now (mem .entry)) r (now (mem .exit)) ⌝ }
 {
-    let p = spot_of(g, s);
-    let cell = carry_state::cell_now(g, s);
-    if carry_state::is_too_large(p.view, cell) {
-        return carry_state::ends(s, Outcome::TooLarge);
+    if b == 0x08 {
+        let v = p.view;
+        let view = moves::back(v, cell.columns, cell.rows);
+        return Spot { view, ..p };
     }
-    let q = moves_tab::tab(g, mem, p, cell.columns, cell.rows);
-    carry_state::ends(settle(s, q), Outcome::Carried)
+    if b == 0x09 {
+        return moves_tab::tab(g, mem, p, cell.columns, cell.rows);
+    }
+    moves::line_feed(g, mem, p, cell.rows)
 }
 
-// LF.
-pub fn line_feed(g: Module, mem: &mut [u8], s: State) -> Done
+// BS, HT or LF, by its byte. It has three callers, and so stays out of the loop over a piece, where a light turn carries them out
+// unless the cell is too large.
+pub fn step(g: Module, mem: &mut [u8], s: State, b: u8) -> Done
     requires { ⌜ Ready g s (now mem) ⌝ }
-    ensures { λ r. ⌜ ((font : Faces) → Does g (now (mem .entry)) r (now (mem .exit)) (commandOf g font s Command.LineFeed)) ⌝ }
+    ensures { λ r. ⌜ ((font : Faces) → Does g (now (mem .entry)) r (now (mem .exit)) (commandOf g font s (stepCommand b))) ⌝ }
 {
     let p = spot_of(g, s);
     let cell = carry_state::cell_now(g, s);
     if carry_state::is_too_large(p.view, cell) {
         return carry_state::ends(s, Outcome::TooLarge);
     }
-    let q = moves::line_feed(g, mem, p, cell.rows);
+    let q = stepped(g, mem, p, cell, b);
     carry_state::ends(settle(s, q), Outcome::Carried)
 }
 

@@ -52,20 +52,6 @@ pub fn is_too_large(v: View, cell: Cell) -> bool
 
 // ---- moves of the current window's cursor
 
-// BS.
-pub fn back(g: Module, s: State) -> Done
-    requires { ⌜ Usable g × (stateOk g s ≡ true) ⌝ }
-    ensures { λ r. ⌜ ((font : Faces) → Says r (commandOf g font s Command.Back)) ⌝ }
-{
-    let view = state_views::view_of(g, s);
-    let cell = cell_now(g, s);
-    if is_too_large(view, cell) {
-        return ends(s, Outcome::TooLarge);
-    }
-    let to = moves::back(view, cell.columns, cell.rows);
-    ends(state_views::with_view(s, to), Outcome::Carried)
-}
-
 // HOM.
 pub fn home(g: Module, s: State) -> Done
     requires { ⌜ Usable g × (stateOk g s ≡ true) ⌝ }

@@ -11,6 +11,7 @@ use Rattle.laws_bytes.specs.Readings.{commandOk}
 use Rattle.laws_bytes.proofs.Tests.{between-facts}
 use Rattle.carry_state.proofs.Answers.{is-14, store-answered}
 use Rattle.carry_state.proofs.Facts.{selected-small}
+use Rattle.carry_dots.specs.Steps.{stepCommand}
 use Rattle.carry_dots.proofs.Wrote.{does-answer, does-quiet}
 use Rattle.carry.proofs.Kept.{kept, kept-quiet}
 use Rattle.carry.proofs.carry_out.Statement.{statement}
@@ -63,25 +64,25 @@ returns c =
     rw (c .before .before .before .before .before .before .c .given .1) (kept f (a .s) (Character _) refl (c .before .before .character .ensures))
 
 returns-2 : tie.Need-returns-2
-unfolding leaves
+unfolding leaves stepCommand
 returns-2 c =
-    let a = c .before .before .before .before .before .before .before .args in
+    let a = c .before .before .before .before .before .before .before .before .before .before .args in
     let f = faces (now (a .font)) (now (a .store)) in
-    rw (c .before .enum-told .given .1) (kept-quiet f (a .s) Back refl (c .back .ensures f))
+    rw (c .before .before .before .before .enum-told .given .1) (kept f (a .s) Back refl (c .before .before .step .ensures f))
 
 returns-3 : tie.Need-returns-3
-unfolding leaves
+unfolding leaves stepCommand
 returns-3 c =
     let a = c .before .before .before .before .before .before .before .before .before .before .args in
     let f = faces (now (a .font)) (now (a .store)) in
-    rw (c .before .before .before .before .enum-told2 .given .1) (kept f (a .s) Tab refl (c .before .before .tab .ensures f))
+    rw (c .before .before .before .before .enum-told2 .given .1) (kept f (a .s) Tab refl (c .before .before .step2 .ensures f))
 
 returns-4 : tie.Need-returns-4
-unfolding leaves
+unfolding leaves stepCommand
 returns-4 c =
     let a = c .before .before .before .before .before .before .before .before .before .before .args in
     let f = faces (now (a .font)) (now (a .store)) in
-    rw (c .before .before .before .before .enum-told3 .given .1) (kept f (a .s) LineFeed refl (c .before .before .line-feed .ensures f))
+    rw (c .before .before .before .before .enum-told3 .given .1) (kept f (a .s) LineFeed refl (c .before .before .step3 .ensures f))
 
 returns-5 : tie.Need-returns-5
 unfolding leaves
@@ -213,6 +214,7 @@ carry-out-spec =
     (λ c. search needs)
     (λ c. search needs)
     returns
+    (λ c. search needs)
     returns-2
     (λ c. search needs)
     returns-3

@@ -1,20 +1,19 @@
--- `carry_dots::line_feed` meets its contract: 16 if a cell exceeds the range. Assumes nothing.
+-- `carry_dots::step` meets its contract: 16 if a cell exceeds the range. Assumes nothing.
 use borrow.Author.Needs.{needs}
-use mathlib.Core.Path.{_≡_, refl}
+use mathlib.Core.Path.{_≡_}
 use mathlib.Core.Bool.{true, false}
 use native.Mathlib.Omega.{arith}
-use Rattle.paper.specs.declared.Command.the-variants.{LineFeed}
 use Rattle.paper.specs.Settings.{viewOf}
-use Rattle.paper.specs.Moves.{lineFeedOf}
-use Rattle.paper.specs.Carry.{asks, carriedOut, widthNow, heightNow, exceeds}
-use Rattle.carry_state.proofs.Answers.{is-16, is-10, ends-at}
+use Rattle.paper.specs.Carry.{widthNow, heightNow, exceeds}
+use Rattle.carry_state.proofs.Answers.{ends-at}
 use Rattle.carry_state.proofs.Facts.{selected-small}
 use Rattle.laws_state.specs.Room.{Room}
-use Rattle.laws_state.proofs.Moves.{feed-kept}
 use Rattle.laws_state.proofs.Views.{view-room}
+use Rattle.carry_dots.specs.Steps.{steppedOf}
 use Rattle.carry_dots.proofs.Wrote.{does-answer, does-move, spot-tested, settles}
-use Rattle.carry_dots.proofs.line_feed.Statement.{statement}
-use Rattle.carry_dots.proofs.line_feed.Tie as tie
+use Rattle.carry_dots.proofs.Steps.{stepped-kept, step-large, step-moves}
+use Rattle.carry_dots.proofs.step.Statement.{statement}
+use Rattle.carry_dots.proofs.step.Tie as tie
 
 spot-of-requires : tie.Need-spot-of-requires
 spot-of-requires c κs =
@@ -22,12 +21,11 @@ spot-of-requires c κs =
     (selected-small (start .args .g) (start .args .s) (start .pre .state-ok), omega (arith, start .pre .usable .visible-part))
 
 returns : tie.Need-returns
-unfolding asks carriedOut
 returns c font =
     let sized = c .before .before .before in
     let start = sized .before .before .before in
     does-answer (c .ends .ensures)
-    (is-16 (start .args .g) font (start .args .s) LineFeed refl refl refl refl
+    (step-large (start .args .g) font (start .args .s) (start .args .b)
     (spot-tested _ _ _ _ _ true (sized .before .spot-of .ensures) (sized .cell-now .ensures) (c .before .before .is-too-large .ensures)
     (c .before .if1 .taken)))
 
@@ -46,13 +44,12 @@ room c =
     let start = c .before .before .before .before .before in
     view-room (start .args .g) (start .pre .usable) (start .args .s) (start .pre .state-ok) (fits c)
 
-line-feed-requires : tie.Need-line-feed-requires
-line-feed-requires c κs =
+stepped-requires : tie.Need-stepped-requires
+stepped-requires c κs =
     let left = c .before in
     let sized = left .before .before in
     let r = sized .before .before .before .pre in
-    let k = room left in
-    rw (sized .before .spot-of .ensures, sized .cell-now .ensures) (r .usable, (k .place, (k .l-fits, r .fits)))
+    (r .usable, (rw (sized .before .spot-of .ensures, sized .cell-now .ensures) (room left), r .fits))
 
 settle-requires : tie.Need-settle-requires
 settle-requires c κs =
@@ -63,12 +60,11 @@ settle-requires c κs =
     let g = start .args .g in
     let s = start .args .s in
     let v = viewOf g s in
-    settles g s (start .args .mem .now) (lineFeedOf g v (heightNow s)) (moved .line-feed .result .view) (start .pre)
-    (feed-kept g v (widthNow g s) (heightNow s) (room left))
-    ((rw (sized .before .spot-of .ensures, sized .cell-now .ensures) at (moved .line-feed .ensures)) .view)
+    settles g s (start .args .mem .now) (steppedOf g v (widthNow g s) (heightNow s) (start .args .b)) (moved .stepped .result .view) (start .pre)
+    (stepped-kept g v (widthNow g s) (heightNow s) (start .args .b) (room left))
+    ((rw (sized .before .spot-of .ensures, sized .cell-now .ensures) at (moved .stepped .ensures)) .view)
 
 returns-2 : tie.Need-returns-2
-unfolding asks carriedOut
 returns-2 c font =
     let moved = c .before .before .before .before in
     let left = moved .before .before in
@@ -77,13 +73,13 @@ returns-2 c font =
     let g = start .args .g in
     let s = start .args .s in
     let v = viewOf g s in
-    does-move s (lineFeedOf g v (heightNow s))
-    (rw (sized .before .spot-of .ensures, sized .cell-now .ensures) at (moved .line-feed .ensures))
+    does-move s (steppedOf g v (widthNow g s) (heightNow s) (start .args .b))
+    (rw (sized .before .spot-of .ensures, sized .cell-now .ensures) at (moved .stepped .ensures))
     (ends-at (c .ends2 .ensures) (c .before .settle .ensures))
-    (is-10 g font s LineFeed (record { carried = refl; owner = refl; domain = refl; defined = refl; room = fits left; stored = refl }))
+    (step-moves g font s (start .args .b) (fits left))
 
-pub line-feed-spec : {M : Type 1} → statement M
-line-feed-spec =
+pub step-spec : {M : Type 1} → statement M
+step-spec =
     tie.close
     (tie.spec
     spot-of-requires
@@ -91,7 +87,7 @@ line-feed-spec =
     (λ c κs. search needs)
     (λ c κs. search needs)
     returns
-    line-feed-requires
+    stepped-requires
     settle-requires
     (λ c κs. search needs)
     (λ c. search needs)
