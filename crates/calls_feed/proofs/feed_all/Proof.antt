@@ -50,7 +50,15 @@ feed-some-requires c κs =
           };
       font-whole = start .pre .1;
       inside = omega arith;
-      countable = omega (arith, len-small (begun .before .before), reaches-counts (inv .2), length-drop (head .loop .i) (a .piece .now), ap (λ (f : Fed). f .carried) e, ap (λ (f : Fed). f .answered) e);
+      countable =
+          omega (
+            arith,
+            len-small (begun .before .before),
+            reaches-counts (inv .2),
+            length-drop (head .loop .i) (a .piece .now),
+            ap (λ (f : Fed). f .carried) e,
+            ap (λ (f : Fed). f .answered) e,
+          );
     }
 
 loop-less : tie.Need-loop-less Inv-loop μ-loop
