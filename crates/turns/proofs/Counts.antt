@@ -22,7 +22,7 @@ pub answered-one : (o : Outcome) → answeredBy o ≤ 1
 answered-one o = omega (arith, one-at-most o)
 
 -- what a byte did, counted
-pub counted-by : (g : Module) (f : Fed) (d : Done) (m m′ : List ℕ) (t : Meaning) (c a : ℕ) → Does g m d m′ t
+pub counted-by : (g : Module) (f : Fed) (d : Done) (m m′ ds ds′ es : List ℕ) (t : Meaning) (c a : ℕ) → Does g m d m′ t → ds′ ≡ es
     → c ≡ carriedBy (d .outcome) → a ≡ answeredBy (d .outcome)
-    → feeding (f .refusal) (d .state) (f .carried + c) (f .answered + a) (d .outcome) m′ ≡ counted g (fed f m) t
-counted-by g f d m m′ t c a h e k = rw (e, k, h .state, h .outcome, h .mem)
+    → feeding (f .refusal) (d .state) (f .carried + c) (f .answered + a) (d .outcome) m′ ds′ ≡ counted g (fed f m ds) t es
+counted-by g f d m m′ ds ds′ es t c a h x e k = rw (e, k, h .state, h .outcome, h .mem, x)

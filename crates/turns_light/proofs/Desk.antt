@@ -15,7 +15,7 @@ use Rattle.paper.specs.declared.Style.{Style}
 use Rattle.paper.specs.declared.View.{View}
 use Rattle.paper.specs.Panel.{fontLength}
 use Rattle.paper.specs.Settings.{withSettings, withSpans, withStyle, withView, atCursor, cursorIn, viewOf}
-use Rattle.paper.specs.Bounds.{accepted, settingsOk}
+use Rattle.paper.specs.Bounds.{stateOk, settingsOk}
 use Rattle.paper.specs.Cells.{cellWidth, cellHeight}
 use Rattle.paper.specs.Carry.{exceeds}
 use Rattle.laws_state.specs.Room.{Usable, Room}
@@ -70,7 +70,7 @@ module _ (g : Module) (u : Usable g) (s : State) (y : Style) (p : Spot) (i : Wit
   pub desk-exceeds : exceeds g (restyled s y) ≡ false → exceeds g (onDesk s y p) ≡ false
   desk-exceeds e = sheet-exceeds g part (restyled s y) (under p []) within-here ∙ e
 
-  module _ (ok : accepted g (onDesk s y p) ≡ true) where
+  module _ (ok : stateOk g (onDesk s y p) ≡ true) where
     settings-fine : settingsOk g (withStyle (s .settings) y) ≡ true
     settings-fine = rw desk-settings at (parts g (onDesk s y p) ok .settings)
 

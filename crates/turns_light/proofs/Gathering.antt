@@ -9,16 +9,17 @@ use lib.ListN.{length, getD, drop, length-drop}
 use Rattle.paper.specs.declared.Module.{Module}
 use Rattle.paper.specs.declared.Half.{Half}
 use Rattle.paper.specs.declared.Reading.{Reading}
-use Rattle.paper.specs.declared.Reading.the-variants.{More, Whole, ImageByte, ImageEnd, Cancels, UnknownCode}
+use Rattle.paper.specs.declared.Reading.the-variants.{More, Whole, ImageByte, ImageEnd, GlyphEnd, Cancels, UnknownCode}
 use Rattle.paper.specs.declared.Outcome.{Outcome}
 use Rattle.paper.specs.declared.Outcome.the-variants.{Unfinished}
 use Rattle.paper.specs.declared.Refusal.{Refusal}
 use Rattle.paper.specs.declared.State.{State}
 use Rattle.paper.specs.Numbers.{outcomeNumber, carriedBy, answeredBy}
+use Rattle.paper.specs.Downloads.{Faces, faces}
 use Rattle.paper.specs.Reading.{readOf}
 use Rattle.paper.specs.Settings.{withHalf, viewOf}
-use Rattle.paper.specs.Carry.{takeOf, byteMeans}
-use Rattle.paper.specs.Calls.{feeding, counted, next}
+use Rattle.paper.specs.Carry.{glyphEnds, takeOf, byteMeans, takeStore, byteStore}
+use Rattle.paper.specs.Calls.{Feeding, feeding, counted, next}
 use Rattle.laws_bytes.specs.Readings.{readingOk}
 use Rattle.laws_bytes.proofs.Readings.{reads-ok}
 use Rattle.laws_state.specs.Runs as reached
@@ -46,38 +47,54 @@ module _ {g : Module} where
   gathers-ok (byte {h} {b = b} e p) k = gathers-ok p (rw (← e) (reads-ok g h b k))
 
 -- what is half read does not matter for what a reading does
-half-aside : (g : Module) (font : List ℕ) (s : State) (h : Half) (q : Reading) → takeOf g font (withHalf s h) q ≡ takeOf g font s q
-unfolding takeOf viewOf
+half-aside : (g : Module) (font : Faces) (s : State) (h : Half) (q : Reading) → takeOf g font (withHalf s h) q ≡ takeOf g font s q
+unfolding takeOf viewOf glyphEnds
 half-aside g font s h (More p) = refl
 half-aside g font s h (Whole c) = refl
 half-aside g font s h (ImageByte column row b p) = refl
 half-aside g font s h (ImageEnd column row b) = refl
+half-aside g font s h (GlyphEnd d c) = refl
 half-aside g font s h Cancels = refl
 half-aside g font s h UnknownCode = refl
 
-module _ (g : Module) (font : List ℕ) (r : Refusal) (c a : ℕ) (m : List ℕ) where
+-- nor for the downloads that it leaves
+store-aside : (g : Module) (font : Faces) (s : State) (h : Half) (q : Reading) → takeStore g font (withHalf s h) q ≡ takeStore g font s q
+unfolding takeStore
+store-aside g font s h (More p) = refl
+store-aside g font s h (Whole c) = refl
+store-aside g font s h (ImageByte column row b p) = refl
+store-aside g font s h (ImageEnd column row b) = refl
+store-aside g font s h (GlyphEnd d c) = refl
+store-aside g font s h Cancels = refl
+store-aside g font s h UnknownCode = refl
+
+module _ (g : Module) (font : List ℕ) (r : Refusal) (c a : ℕ) (m ds : List ℕ) where
+  -- what a reading comes to
+  abbrev pub taken : State → Outcome → Reading → Feeding
+  taken s o q = counted g (feeding r s c a o m ds) (takeOf g (faces font ds) s q) (takeStore g (faces font ds) s q)
+
   -- a byte that leaves the command half read
   half-next : (s : State) (o : Outcome) (b : ℕ) (h : Half) → readOf g (s .half) b ≡ More h
-      → next g font (feeding r s c a o m) b ≡ feeding r (withHalf s h) c a Unfinished m
-  unfolding next byteMeans takeOf outcomeNumber carriedBy answeredBy
+      → next g font (feeding r s c a o m ds) b ≡ feeding r (withHalf s h) c a Unfinished m ds
+  unfolding next byteMeans byteStore takeOf takeStore outcomeNumber carriedBy answeredBy
   half-next s o b h e = rw (e, add-zero c, add-zero a)
 
   -- the bytes after a first one, gathered and then taken
   taken-on : (s : State) (o : Outcome) (b : ℕ) {q t : Reading} {bs rest : List ℕ} → readOf g (s .half) b ≡ q → Gathers g q bs t rest
-      → Reaches g font (feeding r s c a o m) (b ∷ bs) (counted g (feeding r s c a o m) (takeOf g font s t)) rest
-  unfolding next byteMeans
-  taken-on s o b e here = reaches-next b (ap (λ (q : Reading). counted g (feeding r s c a o m) (takeOf g font s q)) e) reached.here
+      → Reaches g font (feeding r s c a o m ds) (b ∷ bs) (taken s o t) rest
+  unfolding next byteMeans byteStore
+  taken-on s o b e here = reaches-next b (ap (taken s o) e) reached.here
   taken-on s o b {t = t} e (byte {h} {b = d} f p) =
-      rw (← half-aside g font s h t) (reaches-next b (half-next s o b h e) (taken-on (withHalf s h) Unfinished d f p))
+      rw (← half-aside g (faces font ds) s h t, ← store-aside g (faces font ds) s h t) (reaches-next b (half-next s o b h e) (taken-on (withHalf s h) Unfinished d f p))
 
   -- THE LAW: bytes gathered and then taken come to what they come to one by one
   pub taken-reached : (s : State) (o : Outcome) {q : Reading} (piece : List ℕ) (i at : ℕ) → i < length piece → i < at → at ≤ length piece
       → Gathers g (More (s .half)) (drop i piece) q (drop at piece)
-      → Reaches g font (feeding r s c a o m) (drop i piece) (counted g (feeding r s c a o m) (takeOf g font s q)) (drop at piece)
+      → Reaches g font (feeding r s c a o m ds) (drop i piece) (taken s o q) (drop at piece)
   taken-reached s o piece i at l k e p =
       rw (from-here piece i l) (go (rw (from-here piece i l) at p) (omega (arith, length-drop at piece, length-drop (i + 1) piece)))
     where
       go : {q : Reading} {b : ℕ} {bs rest : List ℕ} → Gathers g (More (s .half)) (b ∷ bs) q rest → length rest ≤ length bs
-          → Reaches g font (feeding r s c a o m) (b ∷ bs) (counted g (feeding r s c a o m) (takeOf g font s q)) rest
+          → Reaches g font (feeding r s c a o m ds) (b ∷ bs) (taken s o q) rest
       go here n = absurd (omega arith)
       go {b = b} (byte f p) n = taken-on s o b f p

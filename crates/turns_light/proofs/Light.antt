@@ -25,21 +25,23 @@ use Rattle.paper.specs.declared.Span.{Span}
 use Rattle.paper.specs.declared.State.{State}
 use Rattle.paper.specs.declared.Style.{Style}
 use Rattle.paper.specs.declared.View.{View}
+use Rattle.paper.specs.Downloads.{Faces, faces, inForce}
 use Rattle.paper.specs.Strokes.{applyAll, markAll}
 use Rattle.paper.specs.Numbers.{outcomeNumber, carriedBy, answeredBy}
 use Rattle.paper.specs.Reading.{between, readFirst, readMove, readUnit, readOf}
 use Rattle.paper.specs.Settings.{inDomain, makeStyle, withHalf, withSettings, withSetting, withSpans, withStyle, withView, cursorIn, viewOf}
-use Rattle.paper.specs.Bounds.{accepted}
+use Rattle.paper.specs.Bounds.{stateOk}
 use Rattle.paper.specs.Cells.{cellWidth, cellHeight}
 use Rattle.paper.specs.Moves.{Moved}
-use Rattle.paper.specs.Carry.{notCarriedValue, isWrite, asks, exceeds, widthNow, heightNow, moves, carriedOut, commandOf, takeOf, byteMeans}
+use Rattle.paper.specs.Carry.{notCarriedValue, isWrite, asks, exceeds, widthNow, heightNow, moves, carriedOut, commandOf, takeOf, byteMeans, leaves, takeStore, byteStore}
 use Rattle.paper.specs.Calls.{feeding, counted, next}
+use Rattle.carry_state.proofs.Answers.{store-same}
 use Rattle.laws_bytes.proofs.Tests.{both-of, between-facts}
 use Rattle.laws_state.specs.Room.{Usable, Room, Kept}
 use Rattle.laws_state.specs.Runs as reached
 use Rattle.laws_state.specs.Runs.{Reaches, sheet, written, charactersOf, Within}
 use Rattle.laws_state.proofs.Moves.{ht-kept, back-kept, feed-kept, home-kept, return-kept, clear-kept}
-use Rattle.laws_state.proofs.Reached.{reaches-next, reaches-on, reaches-accepted, reaches-counts}
+use Rattle.laws_state.proofs.Reached.{reaches-next, reaches-on, reaches-state, reaches-counts}
 use Rattle.laws_state.proofs.Runs.{within-on, within-kept}
 use Rattle.laws_state.proofs.Sheets.{at-spans, sheet-twice, view-same}
 use Rattle.laws_state.proofs.Taken.{from-here}
@@ -53,7 +55,7 @@ use Rattle.strides.specs.Strides.{stepOf, isStyling, styledBy, isLight}
 use Rattle.laws_state.specs.Told.{fed}
 use Rattle.turns_light.specs.Turns.{Gathers, here, restyled, onDesk}
 use Rattle.turns_light.proofs.Turns.{characters-turn}
-use Rattle.turns_light.proofs.Gathering.{gathers-read, taken-reached}
+use Rattle.turns_light.proofs.Gathering.{gathers-read, taken, taken-reached}
 use Rattle.turns_light.proofs.Desk.{settings-aside, styled-exceeds, desk-view, desk-settings, desk-half, desk-exceeds, desk-room}
 
 -- ---- a move that comes as a byte
@@ -83,12 +85,18 @@ step-kept g v c l b i =
     (λ _. by-cond (Kept v) (eqb b 0x0B) (λ _. home-kept v g (i .place))
     (λ _. by-cond (Kept v) (eqb b 0x0C) (λ _. clear-kept v g (i .place)) (λ _. return-kept v g (i .place))))))
 
-module _ (g : Module) (font : List ℕ) (s : State) (n : s .half ≡ Nothing) where
+module _ (g : Module) (font : Faces) (s : State) (n : s .half ≡ Nothing) where
   -- a byte that is a command, while nothing is half read
   byte-command : (c : Command) (b : ℕ) → readOf g Nothing b ≡ Whole c → byteMeans g font s b ≡ commandOf g font s c
   unfolding byteMeans takeOf
   byte-command c b e =
       ap (λ (p : Half). takeOf g font s (readOf g p b)) n ∙ ap (takeOf g font s) e ∙ ap (λ (p : Half). commandOf g font (withHalf s p) c) (sym n)
+
+  -- one that leaves the downloads alone
+  byte-store : (c : Command) (b : ℕ) → readOf g Nothing b ≡ Whole c → leaves c (font .store) ≡ font .store → byteStore g font s b ≡ font .store
+  unfolding byteStore takeStore
+  byte-store c b e same =
+      ap (λ (p : Half). takeStore g font s (readOf g p b)) n ∙ ap (takeStore g font s) e ∙ sym (store-same g font (withHalf s Nothing) c same)
 
   -- a move, while a cell has room
   move-means : (b : ℕ) → between 0x08 0x0D b ≡ true → exceeds g s ≡ false
@@ -99,16 +107,25 @@ module _ (g : Module) (font : List ℕ) (s : State) (n : s .half ≡ Nothing) wh
       (byte-command Back 8 refl ∙ rw e) (byte-command Tab 9 refl ∙ rw e) (byte-command LineFeed 10 refl ∙ rw e)
       (byte-command Home 11 refl) (byte-command Clear 12 refl) (byte-command Return 13 refl) b l
 
+  -- and that it leaves the downloads alone
+  move-store : (b : ℕ) → between 0x08 0x0D b ≡ true → byteStore g font s b ≡ font .store
+  unfolding readOf readFirst readMove leaves
+  move-store b l =
+      by-six (λ (b : ℕ). byteStore g font s b ≡ font .store)
+      (byte-store Back 8 refl refl) (byte-store Tab 9 refl refl) (byte-store LineFeed 10 refl refl)
+      (byte-store Home 11 refl refl) (byte-store Clear 12 refl refl) (byte-store Return 13 refl refl) b l
+
+module _ (g : Module) (font ds : List ℕ) (s : State) (n : s .half ≡ Nothing) where
   -- it is counted
   move-next : (r : Refusal) (c a : ℕ) (o : Outcome) (m : List ℕ) (b : ℕ) → between 0x08 0x0D b ≡ true → exceeds g s ≡ false
       → let t = stepOf g (viewOf g s) (widthNow g s) (heightNow s) b in
-      next g font (feeding r s c a o m) b
-      ≡ feeding r (withSpans (withView s (t .view)) (markAll (s .spans) (t .strokes))) (c + 1) a Carried (applyAll g m (t .strokes))
+      next g font (feeding r s c a o m ds) b
+      ≡ feeding r (withSpans (withView s (t .view)) (markAll (s .spans) (t .strokes))) (c + 1) a Carried (applyAll g m (t .strokes)) ds
   unfolding next outcomeNumber carriedBy answeredBy
   move-next r c a o m b l e =
       let t = stepOf g (viewOf g s) (widthNow g s) (heightNow s) b in
-      ap (counted g (feeding r s c a o m)) (move-means b l e)
-      ∙ ap₂ (λ (ps : List Span) (k : ℕ). feeding r (withSpans (withView s (t .view)) (markAll ps (t .strokes))) (c + 1) k Carried (applyAll g m (t .strokes)))
+      ap₂ (counted g (feeding r s c a o m ds)) (move-means g (faces font ds) s n b l e) (move-store g (faces font ds) s n b l)
+      ∙ ap₂ (λ (ps : List Span) (k : ℕ). feeding r (withSpans (withView s (t .view)) (markAll ps (t .strokes))) (c + 1) k Carried (applyAll g m (t .strokes)) ds)
       (at-spans s (cursorIn s (t .view))) (add-zero a)
 
 -- ---- reverse and mixing
@@ -176,31 +193,32 @@ styled-gathers g piece i d =
     third : i + 1 + 1 + 1 ≡ i + 3
     third = omega arith
 
-module _ (g : Module) (font : List ℕ) (r : Refusal) (s : State) (c a : ℕ) (o : Outcome) (m : List ℕ) (n : s .half ≡ Nothing) where
+module _ (g : Module) (font : List ℕ) (r : Refusal) (s : State) (c a : ℕ) (o : Outcome) (m ds : List ℕ) (n : s .half ≡ Nothing) where
   -- a setting in its domain that changes the style is carried out
   set-counted : (k v : ℕ) → inDomain g (keyBy k) v ≡ true
-      → counted g (feeding r s c a o m) (takeOf g font s (Whole (Set (keyBy k) v)))
-      ≡ feeding r (withSettings s (withSetting (s .settings) (keyBy k) v)) (c + 1) a Carried m
-  unfolding takeOf commandOf asks carriedOut notCarriedValue isWrite outcomeNumber carriedBy answeredBy
+      → taken g font r c a m ds s o (Whole (Set (keyBy k) v))
+      ≡ feeding r (withSettings s (withSetting (s .settings) (keyBy k) v)) (c + 1) a Carried m ds
+  unfolding takeOf takeStore leaves commandOf asks carriedOut notCarriedValue isWrite outcomeNumber carriedBy answeredBy
   set-counted k v e = first ∙ second (eqb k 0x72) e where
-    first : counted g (feeding r s c a o m) (takeOf g font s (Whole (Set (keyBy k) v)))
-        ≡ counted g (feeding r s c a o m) (commandOf g font s (Set (keyBy k) v))
-    first = ap (λ (p : Half). counted g (feeding r s c a o m) (commandOf g font (withHalf s p) (Set (keyBy k) v))) (sym n)
+    first : taken g font r c a m ds s o (Whole (Set (keyBy k) v)) ≡ counted g (feeding r s c a o m ds) (commandOf g (faces font ds) s (Set (keyBy k) v)) ds
+    first =
+        ap₂ (λ (p : Half) (es : List ℕ). counted g (feeding r s c a o m ds) (commandOf g (faces font ds) (withHalf s p) (Set (keyBy k) v)) es) (sym n)
+        (sym (store-same g (faces font ds) (withHalf s Nothing) (Set (keyBy k) v) refl))
 
     second : (t : Bool) → inDomain g (cond t Reverse Mixing) v ≡ true
-        → counted g (feeding r s c a o m) (commandOf g font s (Set (cond t Reverse Mixing) v))
-        ≡ feeding r (withSettings s (withSetting (s .settings) (cond t Reverse Mixing) v)) (c + 1) a Carried m
+        → counted g (feeding r s c a o m ds) (commandOf g (faces font ds) s (Set (cond t Reverse Mixing) v)) ds
+        ≡ feeding r (withSettings s (withSetting (s .settings) (cond t Reverse Mixing) v)) (c + 1) a Carried m ds
     second true e = rw (e, add-zero a)
     second false e = rw (e, add-zero a)
 
   -- THE LAW of a style: its three bytes, one by one
   style-turn : (piece : List ℕ) (i : ℕ) → Styled g piece i
-      → Reaches g font (feeding r s c a o m) (drop i piece)
-      (feeding r (withSettings s (withSetting (s .settings) (keyBy (getD piece (i + 1) 0)) (getD piece (i + 2) 0))) (c + 1) a Carried m) (drop (i + 3) piece)
+      → Reaches g font (feeding r s c a o m ds) (drop i piece)
+      (feeding r (withSettings s (withSetting (s .settings) (keyBy (getD piece (i + 1) 0)) (getD piece (i + 2) 0))) (c + 1) a Carried m ds) (drop (i + 3) piece)
   style-turn piece i d =
       let all = d .all in
       rw (set-counted (getD piece (i + 1) 0) (getD piece (i + 2) 0) (d .domain)) at
-      (taken-reached g font r c a m s o {q = Whole (Set (keyBy (getD piece (i + 1) 0)) (getD piece (i + 2) 0))} piece i (i + 3) (omega arith) (omega arith) (omega arith)
+      (taken-reached g font r c a m ds s o {q = Whole (Set (keyBy (getD piece (i + 1) 0)) (getD piece (i + 2) 0))} piece i (i + 3) (omega arith) (omega arith) (omega arith)
       (rw n (styled-gathers g piece i d)))
 
 -- the settings with the style so changed
@@ -215,16 +233,16 @@ styled-settings v y k n = go (eqb k 0x72) where
 -- ---- how far a stretch has come
 
 -- from a place of the piece to i: all so far is in the spot and the style, a cell still has room, and the state is left for the end
-pub record Lit (g : Module) (font piece : List ℕ) (f : Fed) (m : List ℕ) (from : ℕ) (p : Spot) (y : Style) (c : ℕ) (o : Outcome) (i : ℕ) (m′ : List ℕ) : Type 0 where
+pub record Lit (g : Module) (font ds piece : List ℕ) (f : Fed) (m : List ℕ) (from : ℕ) (p : Spot) (y : Style) (c : ℕ) (o : Outcome) (i : ℕ) (m′ : List ℕ) : Type 0 where
   pub low : from ≤ i
   pub high : i ≤ length piece
   pub size : length m′ ≡ length m
   pub within : Within (viewOf g (f .state)) (p .view)
   pub room : exceeds g (restyled (f .state) y) ≡ false
-  pub reached : Reaches g font (fed f m) (drop from piece) (feeding (f .refusal) (onDesk (f .state) y p) c (f .answered) o m′) (drop i piece)
+  pub reached : Reaches g font (fed f m ds) (drop from piece) (feeding (f .refusal) (onDesk (f .state) y p) c (f .answered) o m′ ds) (drop i piece)
 
-module _ {g : Module} {font piece : List ℕ} {f : Fed} {m : List ℕ} {from : ℕ} (u : Usable g) (free : f .state .half ≡ Nothing)
-    {p : Spot} {y : Style} {c : ℕ} {o : Outcome} {i : ℕ} {m₁ : List ℕ} (k : Lit g font piece f m from p y c o i m₁) where
+module _ {g : Module} {font ds piece : List ℕ} {f : Fed} {m : List ℕ} {from : ℕ} (u : Usable g) (free : f .state .half ≡ Nothing)
+    {p : Spot} {y : Style} {c : ℕ} {o : Outcome} {i : ℕ} {m₁ : List ℕ} (k : Lit g font ds piece f m from p y c o i m₁) where
   abbrev s : State
   s = f .state
 
@@ -232,8 +250,8 @@ module _ {g : Module} {font piece : List ℕ} {f : Fed} {m : List ℕ} {from : �
   abbrev now-at : State
   now-at = onDesk s y p
 
-  pub lit-accepted : accepted g (f .state) ≡ true → accepted g now-at ≡ true
-  lit-accepted ok = reaches-accepted u (k .reached) ok
+  pub lit-ok : stateOk g (f .state) ≡ true → stateOk g now-at ≡ true
+  lit-ok ok = reaches-state u (k .reached) ok
 
   pub lit-counts : c + f .answered + length (drop i piece) ≤ f .carried + f .answered + length (drop from piece)
   lit-counts = reaches-counts (k .reached)
@@ -241,18 +259,20 @@ module _ {g : Module} {font piece : List ℕ} {f : Fed} {m : List ℕ} {from : �
   -- one stretch more, from the state that it would be settled to
   on-from : {q : Spot} {z : Style} {d j : ℕ} {m₂ : List ℕ} → from ≤ j → j ≤ length piece → length m₂ ≡ length m₁
       → Within (viewOf g (f .state)) (q .view) → exceeds g (restyled (f .state) z) ≡ false
-      → Reaches g font (feeding (f .refusal) now-at c (f .answered) o m₁) (drop i piece) (feeding (f .refusal) (onDesk (f .state) z q) d (f .answered) Carried m₂) (drop j piece)
-      → Lit g font piece f m from q z d Carried j m₂
+      → Reaches g font (feeding (f .refusal) now-at c (f .answered) o m₁ ds) (drop i piece)
+      (feeding (f .refusal) (onDesk (f .state) z q) d (f .answered) Carried m₂ ds) (drop j piece)
+      → Lit g font ds piece f m from q z d Carried j m₂
   on-from low high size within room more =
       record { low = low; high = high; size = size ∙ k .size; within = within; room = room; reached = reaches-on (k .reached) more }
 
   -- characters
-  pub lit-characters : (r : Drawn) (m₂ : List ℕ) → accepted g (f .state) ≡ true → i < length piece → 0x20 ≤ getD piece i 0 → length m₂ ≡ length m₁
-      → Ran g font (f .state .settings .width) y p m₁ piece i r m₂ → Lit g font piece f m from (r .spot) y (c + (r .at - i)) Carried (r .at) m₂
+  pub lit-characters : (r : Drawn) (m₂ : List ℕ) → stateOk g (f .state) ≡ true → i < length piece → 0x20 ≤ getD piece i 0 → length m₂ ≡ length m₁
+      → Ran g (inForce (f .state .settings .switch) (faces font ds)) (f .state .settings .width) y p m₁ piece i r m₂
+      → Lit g font ds piece f m from (r .spot) y (c + (r .at - i)) Carried (r .at) m₂
   lit-characters r m₂ ok l has size ran =
       on-from (omega (arith, k .low, ran .some)) (ran .end) size (within-on (k .within) (ran .within)) (k .room)
       (rw (sheet-twice (restyled s y) (p .view) (r .spot .view) (p .spans) (r .spot .spans)) at
-      (characters-turn g font u F m₁ piece i (under (r .spot) m₂) (r .at) (lit-accepted ok)
+      (characters-turn g font u F m₁ ds piece i (under (r .spot) m₂) (r .at) (lit-ok ok)
       (record { free = desk-half g u s y p (k .within) free; has = has; room = desk-exceeds g u s y p (k .within) (k .room) })
       l (ran .some) (ran .end) same))
     where
@@ -260,19 +280,19 @@ module _ {g : Module} {font piece : List ℕ} {f : Fed} {m : List ℕ} {from : �
       F = record { refusal = f .refusal; state = now-at; carried = c; answered = f .answered; outcome = o }
 
       same : written (under (r .spot) m₂) (drop (r .at) piece)
-          ≡ charactersOf g font (now-at .settings .width) (now-at .settings .style) (sheet (viewOf g now-at) (now-at .spans) m₁) (drop i piece)
+          ≡ charactersOf g (inForce (now-at .settings .switch) (faces font ds)) (now-at .settings .width) (now-at .settings .style) (sheet (viewOf g now-at) (now-at .spans) m₁) (drop i piece)
       same =
           ran .done
-          ∙ sym (ap₂ (λ (v : Settings) (w : View). charactersOf g font (v .width) (v .style) (sheet w (p .spans) m₁) (drop i piece))
+          ∙ sym (ap₂ (λ (v : Settings) (w : View). charactersOf g (inForce (v .switch) (faces font ds)) (v .width) (v .style) (sheet w (p .spans) m₁) (drop i piece))
           (desk-settings g u s y p (k .within)) (desk-view g u s y p (k .within)))
 
   -- a move
-  pub lit-move : (q : Spot) (m₂ : List ℕ) → accepted g (f .state) ≡ true → i < length piece → between 0x08 0x0D (getD piece i 0) ≡ true → length m₂ ≡ length m₁
+  pub lit-move : (q : Spot) (m₂ : List ℕ) → stateOk g (f .state) ≡ true → i < length piece → between 0x08 0x0D (getD piece i 0) ≡ true → length m₂ ≡ length m₁
       → Does g (p .spans) m₁ q m₂ (stepOf g (p .view) (cellWidth g (f .state .settings .width) y) (cellHeight y) (getD piece i 0))
-      → Lit g font piece f m from q y (c + 1) Carried (i + 1) m₂
+      → Lit g font ds piece f m from q y (c + 1) Carried (i + 1) m₂
   lit-move q m₂ ok l has size did =
       on-from (omega (arith, k .low)) (omega arith) size
-      (rw (did .view) (within-kept (viewOf g s) (p .view) t (k .within) (step-kept g (p .view) _ _ b (desk-room g u s y p (k .within) (lit-accepted ok) (k .room)))))
+      (rw (did .view) (within-kept (viewOf g s) (p .view) t (k .within) (step-kept g (p .view) _ _ b (desk-room g u s y p (k .within) (lit-ok ok) (k .room)))))
       (k .room)
       (rw (from-here piece i l) (reaches-next b first reached.here))
     where
@@ -282,23 +302,23 @@ module _ {g : Module} {font piece : List ℕ} {f : Fed} {m : List ℕ} {from : �
       t : Moved
       t = stepOf g (p .view) (cellWidth g (s .settings .width) y) (cellHeight y) b
 
-      first : next g font (feeding (f .refusal) now-at c (f .answered) o m₁) b ≡ feeding (f .refusal) (onDesk s y q) (c + 1) (f .answered) Carried m₂
+      first : next g font (feeding (f .refusal) now-at c (f .answered) o m₁ ds) b ≡ feeding (f .refusal) (onDesk s y q) (c + 1) (f .answered) Carried m₂ ds
       first =
-          move-next g font now-at (desk-half g u s y p (k .within) free) (f .refusal) c (f .answered) o m₁ b has (desk-exceeds g u s y p (k .within) (k .room))
+          move-next g font ds now-at (desk-half g u s y p (k .within) free) (f .refusal) c (f .answered) o m₁ b has (desk-exceeds g u s y p (k .within) (k .room))
           ∙ ap₂ (λ (v : Settings) (w : View).
           let j = stepOf g w (cellWidth g (v .width) (v .style)) (cellHeight (v .style)) b in
-          feeding (f .refusal) (withSpans (withView now-at (j .view)) (markAll (p .spans) (j .strokes))) (c + 1) (f .answered) Carried (applyAll g m₁ (j .strokes)))
+          feeding (f .refusal) (withSpans (withView now-at (j .view)) (markAll (p .spans) (j .strokes))) (c + 1) (f .answered) Carried (applyAll g m₁ (j .strokes)) ds)
           (desk-settings g u s y p (k .within)) (desk-view g u s y p (k .within))
-          ∙ ap (λ (z : State). feeding (f .refusal) z (c + 1) (f .answered) Carried (applyAll g m₁ (t .strokes)))
+          ∙ ap (λ (z : State). feeding (f .refusal) z (c + 1) (f .answered) Carried (applyAll g m₁ (t .strokes)) ds)
           (sheet-twice (restyled s y) (p .view) (t .view) (p .spans) (markAll (p .spans) (t .strokes)))
           ∙ rw (did .view, did .spans, did .mem)
 
   -- reverse or mixing
   pub lit-style : isStyling piece i ≡ true
-      → Lit g font piece f m from p (styledBy y (getD piece (i + 1) 0) (getD piece (i + 2) 0)) (c + 1) Carried (i + 3) m₁
+      → Lit g font ds piece f m from p (styledBy y (getD piece (i + 1) 0) (getD piece (i + 2) 0)) (c + 1) Carried (i + 3) m₁
   lit-style has =
       on-from (omega (arith, k .low)) (styled-facts g piece i has .all) refl (k .within) (styled-exceeds g s y n v ∙ k .room)
-      (rw same at (style-turn g font (f .refusal) now-at c (f .answered) o m₁ (desk-half g u s y p (k .within) free) piece i (styled-facts g piece i has)))
+      (rw same at (style-turn g font (f .refusal) now-at c (f .answered) o m₁ ds (desk-half g u s y p (k .within) free) piece i (styled-facts g piece i has)))
     where
       n : ℕ
       n = getD piece (i + 1) 0
@@ -313,10 +333,10 @@ module _ {g : Module} {font piece : List ℕ} {f : Fed} {m : List ℕ} {from : �
           ∙ settings-aside (restyled s y) (withStyle (s .settings) (styledBy y n v)) (p .view) (p .spans)
 
 -- it begins with the state's own spot and style
-pub lit-begin : (g : Module) (font piece : List ℕ) (f : Fed) (m : List ℕ) (from : ℕ) (p : Spot) → Usable g → accepted g (f .state) ≡ true
+pub lit-begin : (g : Module) (font ds piece : List ℕ) (f : Fed) (m : List ℕ) (from : ℕ) (p : Spot) → Usable g → stateOk g (f .state) ≡ true
     → exceeds g (f .state) ≡ false → from ≤ length piece → p ≡ spot (viewOf g (f .state)) (f .state .spans)
-    → Lit g font piece f m from p (f .state .settings .style) (f .carried) (f .outcome) from m
-lit-begin g font piece f m from p u ok room l e = rw e
+    → Lit g font ds piece f m from p (f .state .settings .style) (f .carried) (f .outcome) from m
+lit-begin g font ds piece f m from p u ok room l e = rw e
     (record { low = omega arith; high = l; size = refl; within = begun; room = room; reached = rw same reached.here })
   where
     s : State

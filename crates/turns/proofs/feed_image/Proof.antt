@@ -31,7 +31,7 @@ add-t33 c =
     omega (arith, start .pre .0 .inside, start .pre .0 .countable)
 
 returns : tie.Need-returns
-returns c =
+returns c ds =
     let tested = c .before .before .before .before in
     let running = tested .before .before .before .before .before in
     let penned = running .before .before .before .before in
@@ -45,13 +45,13 @@ returns c =
       some = ran .some;
       end = ran .end;
       reached =
-          image-bytes-whole-turn (a .g) (a .font .now) (a .f) (a .mem .now) (a .piece .now) (a .i) (a .width) (a .height) (a .column) (a .row)
+          image-bytes-whole-turn (a .g) (a .font .now) (a .f) (a .mem .now) ds (a .piece .now) (a .i) (a .width) (a .height) (a .column) (a .row)
           (image (q .spans) _ (q .column) (q .row)) (q .at) (start .pre .1) (k .0) (start .pre .0 .inside) (rw (penned .spot-of .ensures) at (ran .done))
           (eq-eqb _ _ (tested .if1 .taken));
     }
 
 returns-2 : tie.Need-returns-2
-returns-2 c =
+returns-2 c ds =
     let tested = c .before .before .before in
     let running = tested .before .before .before .before .before in
     let penned = running .before .before .before .before in
@@ -65,7 +65,7 @@ returns-2 c =
       some = ran .some;
       end = ran .end;
       reached =
-          image-bytes-part-turn (a .g) (a .font .now) (a .f) (a .mem .now) (a .piece .now) (a .i) (a .width) (a .height) (a .column) (a .row)
+          image-bytes-part-turn (a .g) (a .font .now) (a .f) (a .mem .now) ds (a .piece .now) (a .i) (a .width) (a .height) (a .column) (a .row)
           (image (q .spans) _ (q .column) (q .row)) (q .at) (start .pre .1) (k .0) (start .pre .0 .inside) (rw (penned .spot-of .ensures) at (ran .done))
           (ne-eqb _ _ (tested .if1 .left));
     }

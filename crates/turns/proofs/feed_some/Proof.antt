@@ -7,16 +7,16 @@ use Rattle.turns.proofs.feed_some.Tie as tie
 
 is-light-requires : tie.Need-is-light-requires
 is-light-requires c κs =
-    let start = c .before .before .before .before in
+    let start = c .before .before .before .before .before in
     let r = start .pre .ready in
     let u = r .usable in
     (selected-small (start .args .g) (start .args .f .state) (r .state-ok), omega (arith, u .visible-part), u .glyph-small, start .pre .inside)
 
 feed-light-requires : tie.Need-feed-light-requires
 feed-light-requires c κs =
-    let testing = c .before .before in
-    let start = testing .before .before .before .before .before in
-    (start .pre, testing .is-light .ensures (c .before .if1 .taken))
+    let testing = c .before .before .before in
+    let start = testing .before .before .before .before .before .before in
+    (start .pre, testing .is-light .ensures (c .before .before .if1 .taken))
 
 pub feed-some-spec : {M : Type 1} → statement M
 feed-some-spec =
@@ -27,9 +27,11 @@ feed-some-spec =
     (λ c. search needs)
     (λ c. search needs)
     (λ c. search needs)
+    (λ c. search needs)
     (λ c κs. search needs)
     (λ c κs. search needs)
     (λ c. search needs)
+    (λ c. c .before .before .feed-image .ensures (c .before .before .before .before .before .before .before .before .before .before .before .before .before .before .args .store .now))
     (λ c. search needs)
     (λ c. search needs)
     (λ c. search needs))

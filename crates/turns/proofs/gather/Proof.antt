@@ -5,8 +5,9 @@ use Prim.Native.Nat.{_+_, _-_, _<_, _≤_}
 use native.Mathlib.Omega.{arith}
 use lib.ListN.{length, drop}
 use Rattle.paper.specs.declared.Reading.the-variants.{More}
+use Rattle.laws_bytes.specs.Readings.{readingOk}
 use Rattle.turns_light.specs.Turns.{Gathers, here}
-use Rattle.turns_light.proofs.Gathering.{gathers-read}
+use Rattle.turns_light.proofs.Gathering.{gathers-read, gathers-ok}
 use Rattle.turns.proofs.gather.Statement.{statement}
 use Rattle.turns.proofs.gather.Tie as tie
 
@@ -15,6 +16,11 @@ Inv-loop g piece from h₀ i₀ h i = (from ≤ i) × (i ≤ length piece) × Ga
 
 abbrev μ-loop : tie.MeasureT-loop
 μ-loop g piece from h₀ i₀ h i = length piece - i
+
+-- what is half read is a proper beginning of a command
+read-requires : tie.Need-read-requires Inv-loop μ-loop
+unfolding readingOk
+read-requires c κs = gathers-ok (c .before .before .loop .inv .2) (c .before .before .before .before .pre .1)
 
 -- a byte more can be counted
 countable : (c : tie.In-loop Inv-loop μ-loop) → c .before .loop .i + 1 < 18446744073709551616
@@ -49,7 +55,7 @@ gather-spec =
     μ-loop
     (λ c. (omega arith, omega arith, here))
     (λ c. omega arith)
-    (λ c κs. search needs)
+    read-requires
     (λ c. omega (arith, countable (c .before .before)))
     (λ c. search needs)
     (λ c. omega arith)

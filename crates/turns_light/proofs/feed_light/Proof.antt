@@ -7,7 +7,7 @@ use native.Mathlib.Omega.{arith}
 use lib.ListN.{length, length-drop}
 use borrow.Author.Tests.{not-true, not-false}
 use Rattle.paper.specs.declared.Outcome.the-variants.{Carried}
-use Rattle.paper.specs.Bounds.{accepted}
+use Rattle.paper.specs.Bounds.{stateOk}
 use Rattle.paper.specs.Cells.{cellWidth, cellHeight}
 use Rattle.laws_memory.specs.Rectangles.{Fits}
 use Rattle.laws_state.specs.Room.{Room}
@@ -16,22 +16,22 @@ use Rattle.strides.specs.Strides.{isStyling}
 use Rattle.turns_light.specs.Turns.{onDesk}
 use Rattle.turns_light.proofs.Turns.{settles-within}
 use Rattle.turns_light.proofs.Desk.{desk-room, desk-inked}
-use Rattle.turns_light.proofs.Light.{Lit, lit-begin, lit-accepted, lit-counts, lit-characters, lit-move, lit-style, light-some, light-style, style-whole}
+use Rattle.turns_light.proofs.Light.{Lit, lit-begin, lit-ok, lit-counts, lit-characters, lit-move, lit-style, light-some, light-style, style-whole}
 use Rattle.turns_light.proofs.feed_light.Statement.{statement}
 use Rattle.turns_light.proofs.feed_light.Tie as tie
 
 abbrev Inv-loop : tie.InvT-loop
-Inv-loop g mem₀ font piece f from w range p₀ style₀ carried₀ outcome₀ i₀ mem p style carried outcome i =
-    Lit g font piece f mem₀ from p style carried outcome i mem
+Inv-loop g mem₀ font store piece f from w own range p₀ style₀ carried₀ outcome₀ i₀ mem p style carried outcome i =
+    Lit g font store piece f mem₀ from p style carried outcome i mem
 
 abbrev μ-loop : tie.MeasureT-loop
-μ-loop g mem₀ font piece f from w range p₀ style₀ carried₀ outcome₀ i₀ mem p style carried outcome i = length piece - i
+μ-loop g mem₀ font store piece f from w own range p₀ style₀ carried₀ outcome₀ i₀ mem p style carried outcome i = length piece - i
 
 -- ---- what holds at each turn of the loop
 
 -- where it all began
 abbrev begun : tie.At-loop Inv-loop μ-loop → tie.Start Inv-loop μ-loop
-begun h = h .before .before .before .before .before .before .before .before .before
+begun h = h .before .before .before .before .before .before .before .before .before .before .before
 
 -- a piece's length is one that code can count
 len-small : (c : tie.In-loop Inv-loop μ-loop) → length (begun (c .before) .args .piece .now) < 18446744073709551616
@@ -39,11 +39,11 @@ len-small c = omega arith
 
 -- the state that it would be settled to is accepted
 ok : (h : tie.At-loop Inv-loop μ-loop)
-    → let a = begun h .args in accepted (a .g) (onDesk (a .f .state) (h .loop .style) (h .loop .p)) ≡ true
+    → let a = begun h .args in stateOk (a .g) (onDesk (a .f .state) (h .loop .style) (h .loop .p)) ≡ true
 ok h =
     let start = begun h in
     let r = start .pre .0 .ready in
-    lit-accepted (r .usable) (start .pre .1 .free) (h .loop .inv) (r .state-ok)
+    lit-ok (r .usable) (start .pre .1 .free) (h .loop .inv) (r .state-ok)
 
 -- a cell has room at the spot
 room : (h : tie.At-loop Inv-loop μ-loop)
@@ -80,21 +80,21 @@ drawn : (c : tie.After-run Inv-loop μ-loop)
     let a = begun h .args in
     let l = h .loop in
     let r = c .run .result in
-    Lit (a .g) (a .font .now) (a .piece .now) (a .f) (a .mem .now) (a .from)
+    Lit (a .g) (a .font .now) (a .store .now) (a .piece .now) (a .f) (a .mem .now) (a .from)
     (r .spot) (l .style) (l .carried + (r .at - l .i)) Carried (r .at) (c .run .last .1 .0)
 drawn c =
     let h = c .before .before .before .before .before .before .before in
     let start = begun h in
     let r = start .pre .0 .ready in
     lit-characters (r .usable) (start .pre .1 .free) (h .loop .inv) (c .run .result) _ (r .state-ok) (omega arith) (omega arith)
-    (c .run .kept .1 .0) (c .run .ensures)
+    (c .run .kept .1 .0) (rw (h .before .before .before .before .in-force .ensures) at (c .run .ensures))
 
 -- a move
 moved : (c : tie.After-step Inv-loop μ-loop)
     → let h = c .before .before .before .before .before .before .before .before .before .before .before in
     let a = begun h .args in
     let l = h .loop in
-    Lit (a .g) (a .font .now) (a .piece .now) (a .f) (a .mem .now) (a .from)
+    Lit (a .g) (a .font .now) (a .store .now) (a .piece .now) (a .f) (a .mem .now) (a .from)
     (c .step .result) (l .style) (l .carried + 1) Carried (l .i + 1) (c .step .last .1 .0)
 moved c =
     let sized = c .before .before .before in
@@ -122,21 +122,26 @@ whole c =
     let a = begun h .args in
     style-whole (a .g) (a .piece .now) (h .loop .i) (styling c)
 
+-- and the place after them can be counted
+counted : (c : tie.Else3 Inv-loop μ-loop)
+    → let h = c .before .before .before .before .before .before .before in h .loop .i + 3 < 18446744073709551616
+counted c = omega (arith, whole c, len-small (c .before .before .before .before .before .before))
+
 -- ---- before the loop
 
 spot-of-requires : tie.Need-spot-of-requires Inv-loop μ-loop
 spot-of-requires c κs =
-    let start = c .before .before .before .before .before in
+    let start = c .before .before .before .before .before .before .before in
     let r = start .pre .0 .ready in
     (selected-small (start .args .g) (start .args .f .state) (r .state-ok), omega (arith, r .usable .visible-part))
 
 loop-holds : tie.Need-loop-holds Inv-loop μ-loop
 loop-holds c =
     let spot = c .before .before in
-    let start = spot .before .before .before .before .before .before in
+    let start = spot .before .before .before .before .before .before .before .before in
     let a = start .args in
     let r = start .pre .0 .ready in
-    lit-begin (a .g) (a .font .now) (a .piece .now) (a .f) (a .mem .now) (a .from) _ (r .usable) (r .state-ok) (start .pre .1 .room)
+    lit-begin (a .g) (a .font .now) (a .store .now) (a .piece .now) (a .f) (a .mem .now) (a .from) _ (r .usable) (r .state-ok) (start .pre .1 .room)
     (omega (arith, start .pre .0 .inside)) (spot .spot-of .ensures)
 
 -- ---- what is none of the three
@@ -226,9 +231,7 @@ loop-again-2 c = rw (c .in-range2 .ensures) (moved (c .before .before .before))
 -- ---- a style
 
 add-i-2 : tie.Need-add-i-2 Inv-loop μ-loop
-add-i-2 c =
-    let passed = c .before .before .before in
-    omega (arith, whole passed, len-small (passed .before .before .before .before .before .before))
+add-i-2 c = omega (arith, counted (c .before .before .before))
 
 loop-again-3 : tie.Need-loop-again-3 Inv-loop μ-loop
 loop-again-3 c =
@@ -259,6 +262,7 @@ feed-light-spec =
     (tie.spec
     Inv-loop
     μ-loop
+    (λ c κs. search needs)
     spot-of-requires
     loop-holds
     (λ c κs. omega arith)
@@ -281,9 +285,9 @@ feed-light-spec =
     add-i
     loop-less-2
     loop-again-2
-    (λ c. omega (arith, whole c))
+    (λ c. omega (arith, counted c))
     (λ c. omega (arith, whole (c .before)))
-    (λ c. omega (arith, whole (c .before)))
+    (λ c. omega (arith, counted (c .before)))
     (λ c. omega (arith, whole (c .before .before)))
     (λ c κs. search needs)
     add-i-2
