@@ -315,6 +315,24 @@ static void put_pushed(void)
         PUT("LANE 4  00:58.31");
 }
 
+/* Two downloads, one of five columns and one of seven, and lines in which they stand; an earlier archive may not know them. */
+#ifndef EARLIER
+static void put_lanes(void)
+{
+    length = 0;
+    PUT("\x1B&\x01\x23\x24\x05\x81\x43\x25\x19\xFF\x07\x81\x43\x25\x19\xFF\x18\x3D\x1B%\x01");
+    while (length < 1000)
+        PUT("#4 MARA  $ 58.31");
+}
+
+static void put_defines(void)
+{
+    length = 0;
+    while (length < 1000)
+        PUT("\x1B&\x01\x23\x24\x05\x81\x43\x25\x19\xFF\x07\x81\x43\x25\x19\xFF\x18\x3D\x1B?\x01\x23");
+}
+#endif
+
 static void put_home(void)
 {
     length = 0;
@@ -335,6 +353,10 @@ static const struct row {
     {"scrolling, MD3", put_pushed, feed_whole},
     {"text, refresh each 64 bytes", put_text, feed_and_refresh},
     {"mixed, refresh each 64 bytes", put_mixed, feed_and_refresh},
+#ifndef EARLIER
+    {"text with downloads drawn", put_lanes, feed_whole},
+    {"defines and erases", put_defines, feed_whole},
+#endif
     /* a call by itself: one byte, or none */
     {"an empty feed", put_home, feed_nothing},
     {"a feed of one byte", put_home, feed_whole},
