@@ -1,6 +1,6 @@
 // Leaves measured: the functions that write memory and glass, exported to C for the benchmark in bench/.
-// It may use modules, dots, glass, glyphs and cells. Each function works on the 112 by 16 module; it tests what its leaf asks and does nothing if that
-// does not hold. It is no part of the panel.
+// It may use modules, dots, glass, glyphs and cells. Each function works on the 112 by 16 module; it tests what its leaf asks and
+// does nothing if that does not hold. It is no part of the panel.
 use paper::Module;
 use paper::Rect;
 use paper::Span;

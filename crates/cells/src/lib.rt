@@ -1,5 +1,6 @@
 // Cells: what writes glyphs into memory. Mixes columns in, draws one cell, blanks one, stores one image byte.
-// It may use the paper, its laws, the dots and the glyphs, and it knows nothing of cursors and windows, nor where a glyph's columns come from.
+// It may use the paper, its laws, the dots and the glyphs, and it knows nothing of cursors and windows, nor where a glyph's columns
+// come from.
 use glyphs::Cell;
 use glyphs::Tall;
 use glyphs::Walk;

@@ -1,5 +1,6 @@
 -- The five calls of document 01, each one definition that gives for every input what it answers and what state, downloads, memory
--- and glass hold afterwards. A state is handed in with its downloads, which hold, release and refresh leave as they are. "Numbers given back" says which refusals each tests, in order. Assumes nothing.
+-- and glass hold afterwards. A state is handed in with its downloads, which hold, release and refresh leave as they are. "Numbers
+-- given back" says which refusals each tests, in order. Assumes nothing.
 use Prim.Native.Nat.{ℕ, _+_}
 use mathlib.Core.Bool.{Bool, true, false, cond, not}
 use mathlib.Core.List.{List, [], _∷_}

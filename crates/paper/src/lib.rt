@@ -345,7 +345,8 @@ pub enum Hold {
     },
 }
 
-// All that a panel knows besides its memory and its downloads, which stand beside it: 144 bytes, lent like the memory. `selected` is 0 for the base window, whose cursor is `base`.
+// All that a panel knows besides its memory and its downloads, which stand beside it: 144 bytes, lent like the memory. `selected` is
+// 0 for the base window, whose cursor is `base`.
 pub struct State {
     pub half: Half,
     pub settings: Settings,

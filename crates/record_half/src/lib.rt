@@ -1,4 +1,5 @@
-// The record, its half-read part: what is half read, laid flat as a case's number and its parameters, and back. No case of an enum crosses to C.
+// The record, its half-read part: what is half read, laid flat as a case's number and its parameters, and back. No case of an enum
+// crosses to C.
 // It uses the paper alone; docs/RECORD.md has the numbers.
 ghost use mathlib.Core.Path.{_≡_};
 ghost use Rattle.paper.specs.Reading.{noColumns};

@@ -1,5 +1,6 @@
 // Text: a character drawn at the cursor, with the wrap that the mode asks for.
-// It may use moves and moves_tab for the cursor, glyphs and cells for what is drawn; it knows nothing of windows, settings or how bytes are read.
+// It may use moves and moves_tab for the cursor, glyphs and cells for what is drawn; it knows nothing of windows, settings or how
+// bytes are read.
 // The downloads lent to it are those in force: none where the switch is off.
 // Each contract says that what was done is what the paper's definition of the same name means.
 use glyphs::Cell;

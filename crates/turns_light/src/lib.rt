@@ -1,5 +1,6 @@
 // A light turn of the loop over a piece: characters, moves, and reverse and mixing, as many as follow each other.
-// It may use runs and strides for what they do, downloads for those in force, carry_state and carry_dots for the state's spot. It reads and carries out no command.
+// It may use runs and strides for what they do, downloads for those in force, carry_state and carry_dots for the state's spot. It
+// reads and carries out no command.
 // Its contract, and that of every turn (specs/Turns), says that feeding the bytes one by one comes to the same.
 use moves::Spot;
 use paper::Fed;

@@ -1,4 +1,5 @@
--- `panel_feed` meets its contract: a record of another length, or the feed for this module on the state that it stands for. Assumes nothing.
+-- `panel_feed` meets its contract: a record of another length, or the feed for this module on the state that it stands for.
+-- Assumes nothing.
 use denote.Ref.{now}
 use borrow.Author.Needs.{needs}
 use mathlib.Core.Path.{refl, sym, ap, _∙_}
