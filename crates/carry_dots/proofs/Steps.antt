@@ -11,7 +11,7 @@ use Rattle.paper.specs.declared.State.{State}
 use Rattle.paper.specs.declared.View.{View}
 use Rattle.paper.specs.Downloads.{Faces}
 use Rattle.paper.specs.Settings.{viewOf}
-use Rattle.paper.specs.Moves.{Moved, only, backOf, htOf, lineFeedOf}
+use Rattle.paper.specs.Moves.{only, backOf, htOf, lineFeedOf}
 use Rattle.paper.specs.Carry.{asks, carriedOut, widthNow, heightNow, exceeds, answers, moves, commandOf}
 use Rattle.laws_state.specs.Room.{Room, Kept}
 use Rattle.laws_state.proofs.Moves.{back-kept, ht-kept, feed-kept}

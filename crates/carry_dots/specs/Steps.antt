@@ -1,5 +1,5 @@
 -- BS, HT and LF by their bytes: the command, and where it leads where a cell has room. Assumes nothing.
-use mathlib.Core.Bool.{Bool, cond}
+use mathlib.Core.Bool.{cond}
 use mathlib.Core.List.{List}
 use Prim.Native.Nat.{ℕ}
 use lib.Dec.{eqb}

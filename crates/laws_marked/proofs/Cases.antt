@@ -1,14 +1,12 @@
 -- The marked cases hold, for every font: `marked`. Each is computed from the paper's definitions. Assumes nothing.
-use mathlib.Core.Path.{_≡_, refl, ap, ap₂, _∙_}
-use mathlib.Core.Bool.{true, false, cond, _&&_}
+use mathlib.Core.Path.{_≡_, refl, ap, _∙_}
 use mathlib.Core.List.{List, [], _∷_, _++_}
-use Prim.Native.Nat.{ℕ, zero, suc, _*_, _-_, _/_, _<_}
+use Prim.Native.Nat.{ℕ, zero, suc, _-_, _<_}
 use native.Mathlib.Omega.{arith}
 use lib.ListN.{length, getD}
-use lib.Dec.{leb, ltb}
 use Rattle.paper.specs.declared.Answer.{Answer}
 use Rattle.paper.specs.declared.Refusal.the-variants.{Accepted}
-use Rattle.paper.specs.Panel.{panel, byteOf, glyphDot, dot}
+use Rattle.paper.specs.Panel.{panel, byteOf, glyphDot}
 use Rattle.paper.specs.Downloads.{place, glyphOf}
 use Rattle.paper.specs.Strokes.{rectMap, grown, grownBy, refreshed, shown}
 use Rattle.paper.specs.Numbers.{outcomeNumber, refusalNumber, carriedBy, answeredBy}
@@ -18,11 +16,11 @@ use Rattle.paper.specs.Bounds.{settingsOk, cursorOk, isBlank, windowOk, windows
 use Rattle.paper.specs.Cells.{cellDot, penned, cellWidth, tooLarge}
 use Rattle.paper.specs.Moves.{nextLine, nextLineUp, pushLeft, htOf, drawTab, blankTab, characterOf, lineDown, lineDownUp, lineFeedOf, clearOf}
 use Rattle.paper.specs.Carry.{asks, isHeld, carriedOut, commandOf, takeOf, byteMeans, leaves, commandStore, takeStore, byteStore}
-use Rattle.paper.specs.Calls.{isAccepted, startRefusal, startCall, Feeding, next, run, fedNothing, feedCall, holdRefusal, heldBy, holdCall, refreshRefusal, emptied, refreshCall}
+use Rattle.paper.specs.Calls.{isAccepted, startRefusal, startCall, Feeding, next, run, fedNothing, holdRefusal, heldBy, holdCall, refreshRefusal, emptied, refreshCall}
 use Rattle.laws_marked.proofs.Fed.{on, onOver, holding, onHeld, mem-of}
 use Rattle.laws_marked.proofs.Glyph.{below, above}
 use Rattle.laws_marked.proofs.Typed.{runs-alike}
-use Rattle.laws_marked.specs.Marked.{Font, begun, fresh, freshState, answersTo, cursorAfter, nextRefresh, rows, _of_, column, glyph, glyphLow, Characters, cursorSet, md2, md3, windowOne, image, held, fedHeld, Marked}
+use Rattle.laws_marked.specs.Marked.{Font, begun, fresh, freshState, answersTo, cursorAfter, nextRefresh, rows, _of_, glyph, Characters, cursorSet, md2, md3, windowOne, image, held, Marked}
 
 -- ---- a font
 

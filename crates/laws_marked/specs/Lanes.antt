@@ -1,7 +1,7 @@
 -- Document 02, order 2, "Our own lane symbols", as one statement over every font: `Lanes font`. Its proof is `lanes` in proofs/Lanes.
 -- Assumes nothing.
 use mathlib.Core.Path.{_≡_}
-use mathlib.Core.Bool.{true, false}
+use mathlib.Core.Bool.{false}
 use mathlib.Core.List.{List, [], _∷_, _++_}
 use Prim.Native.Nat.{ℕ, zero, suc, _+_}
 use Rattle.paper.specs.Panel.{panel}

@@ -3,12 +3,12 @@ use mathlib.Core.Path.{_≡_, refl, sym, ap, _∙_}
 use mathlib.Core.Bool.{Bool, true, false, cond, not, _&&_, _||_, true≢false}
 use mathlib.Core.List.{List}
 use mathlib.Core.Logic.{_≢_, _⊎_, inl, inr, ⊎-elim}
-use Prim.Native.Nat.{ℕ, _+_, _*_, _-_, _/_, _<_, _≤_}
+use Prim.Native.Nat.{ℕ, _+_, _*_, _-_, _<_, _≤_}
 use native.Mathlib.Nat.{add-zero}
 use native.Mathlib.Omega.{arith}
 use lib.Dec.{leb, eqb}
 use lib.ListN.{length, getD}
-use borrow.Author.Tests.{leb-false, eqb-true, eqb-false, eq-eqb}
+use borrow.Author.Tests.{leb-false, eqb-true, eqb-false}
 use Rattle.paper.specs.declared.Module.{Module}
 use Rattle.paper.specs.declared.Batch.{Batch}
 use Rattle.paper.specs.declared.Half.{Half}
@@ -16,13 +16,13 @@ use Rattle.paper.specs.declared.Half.the-variants.{Nothing, Escape, Unit, Group
 use Rattle.paper.specs.declared.Hold.{Hold}
 use Rattle.paper.specs.declared.Hold.the-variants.{Free, Held}
 use Rattle.paper.specs.declared.State.{State}
-use Rattle.paper.specs.Downloads.{placeLength, storeLength, placesIn, codeAt, widthAt, columnAt, place, isStored, isFull}
-use Rattle.paper.specs.Bounds.{allBelow, isFree, downloadOk, placeOk, storeOk, allStored, noteOk, halfNoteOk, defineOk}
+use Rattle.paper.specs.Downloads.{placeLength, storeLength, codeAt, widthAt, columnAt, place, isStored, isFull}
+use Rattle.paper.specs.Bounds.{isFree, downloadOk, placeOk, storeOk, allStored, noteOk, halfNoteOk, defineOk}
 use Rattle.laws_bytes.proofs.Tests.{both-of}
 use Rattle.laws_state.proofs.Tests.{neither}
 use Rattle.laws_downloads.proofs.Tests.{by-test, below-at, below-all}
 use Rattle.laws_downloads.proofs.Places.{place-first, place-found}
-use Rattle.laws_downloads.proofs.Stored.{store-length, download-code, held}
+use Rattle.laws_downloads.proofs.Stored.{download-code, held}
 use Rattle.laws_number8.proofs.Tests.{fails, fails-after, fails-below}
 use Rattle.laws_number8.specs.Row.{Taken, Defines, at-width, at-column, Missing, Breaks, places-missing, code-twice, code-low, width-other, column-unused, define-missing, note-missing, note-wrong}
 
