@@ -1,7 +1,7 @@
 -- THE THREE DEMANDS, for the 112 by 16 module and for every input. What each says stands in specs/Demands, sentence by sentence;
 -- the calls of crates/panel are proved to be the five definitions named here. Assumes nothing.
 use mathlib.Core.Path.{_≡_, refl, sym, ap, subst, subst₂, _∙_}
-use mathlib.Core.Bool.{true, false}
+use mathlib.Core.Bool.{Bool, true, false}
 use mathlib.Core.List.{List, [], _∷_, _++_}
 use Prim.Native.Nat.{ℕ, _≤_}
 use native.Mathlib.Omega.{arith}
@@ -79,9 +79,10 @@ module _ (font : List ℕ) (s : State) (ds : List ℕ) where
     demand-2-answered = byte-answered panel font s ds m (feed-taken panel font s ds m memory fonts ok)
 
     -- a define read to its end outside a hold: 18 exactly if one of its codes is not stored
-    pub demand-2-define : (b : ℕ) (d : Batch) (c : Columns) → isHeld (s .hold) ≡ false → readOf panel (s .half) b ≡ GlyphEnd d c
-        → ltb (d .code) (d .last) ≡ false → DefineEnds d (byteMeans panel f s b) (byteStore panel f s b)
-    demand-2-define b d c = define-ends panel f s b d c ok
+    pub demand-2-define : (b : ℕ) (d : Batch) (n : Bool) (c : Columns) → isHeld (s .hold) ≡ false
+        → readOf panel (s .half) b ≡ GlyphEnd d n c → ltb (d .code) (d .last) ≡ false
+        → DefineEnds d (byteMeans panel f s b) (byteStore panel f s b)
+    demand-2-define b d n c = define-ends panel f s b d n c ok
 
     -- a piece is the fold of its bytes, and what they show one by one
     pub demand-2-piece : (bytes : List ℕ) → PieceFed panel font s ds m bytes

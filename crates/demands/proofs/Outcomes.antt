@@ -219,7 +219,7 @@ kind (More p) = 0
 kind (Whole c) = 1
 kind (ImageByte column row b next) = 2
 kind (ImageEnd column row b) = 3
-kind (GlyphEnd d c) = 4
+kind (GlyphEnd d n c) = 4
 kind Cancels = 5
 kind UnknownCode = 6
 
@@ -229,26 +229,35 @@ commandIn (More p) = Uncarried
 commandIn (Whole c) = c
 commandIn (ImageByte column row b next) = Uncarried
 commandIn (ImageEnd column row b) = Uncarried
-commandIn (GlyphEnd d c) = Uncarried
+commandIn (GlyphEnd d n c) = Uncarried
 commandIn Cancels = Uncarried
 commandIn UnknownCode = Uncarried
 
--- the define whose download has come whole, and that download's columns
+-- the define whose download has come whole, its note of a drop, and that download's columns
 abbrev batchIn : Reading → Batch
-batchIn (More p) = batch 0 0 0 false
-batchIn (Whole c) = batch 0 0 0 false
-batchIn (ImageByte column row b next) = batch 0 0 0 false
-batchIn (ImageEnd column row b) = batch 0 0 0 false
-batchIn (GlyphEnd d c) = d
-batchIn Cancels = batch 0 0 0 false
-batchIn UnknownCode = batch 0 0 0 false
+batchIn (More p) = batch 0 0 0
+batchIn (Whole c) = batch 0 0 0
+batchIn (ImageByte column row b next) = batch 0 0 0
+batchIn (ImageEnd column row b) = batch 0 0 0
+batchIn (GlyphEnd d n c) = d
+batchIn Cancels = batch 0 0 0
+batchIn UnknownCode = batch 0 0 0
+
+abbrev noteIn : Reading → Bool
+noteIn (More p) = false
+noteIn (Whole c) = false
+noteIn (ImageByte column row b next) = false
+noteIn (ImageEnd column row b) = false
+noteIn (GlyphEnd d n c) = n
+noteIn Cancels = false
+noteIn UnknownCode = false
 
 abbrev columnsIn : Reading → Columns
 columnsIn (More p) = noColumns 0
 columnsIn (Whole c) = noColumns 0
 columnsIn (ImageByte column row b next) = noColumns 0
 columnsIn (ImageEnd column row b) = noColumns 0
-columnsIn (GlyphEnd d c) = c
+columnsIn (GlyphEnd d n c) = c
 columnsIn Cancels = noColumns 0
 columnsIn UnknownCode = noColumns 0
 
@@ -269,8 +278,8 @@ module _ (r : Reading) (other : kind r ≢ 1) where
   not-command n = neither n no-command
 
 -- and one that ends no download ends no define
-no-define : (r : Reading) (P : Batch → Type 0) → kind r ≢ 4 → EndsDefine r P → ⊥
-no-define r P other x = other (ap kind (x .2))
+no-define : (r : Reading) (P : Batch → Bool → Type 0) → kind r ≢ 4 → EndsDefine r P → ⊥
+no-define r P other x = other (ap kind (x .3))
 
 -- neither a command nor a download's last column
 module _ (g : Module) (ds : List ℕ) (s : State) (r : Reading) (t : Meaning) (no-whole : kind r ≢ 1) (no-glyph : kind r ≢ 4) where
@@ -295,7 +304,7 @@ module _ (g : Module) (ds : List ℕ) (s : State) (r : Reading) (t : Meaning) (n
         number-19 = not-command r no-whole (n .6);
         unchanged = same;
         untouched = λ _ _. refl;
-        stored = λ d c e. absurd (no-glyph (ap kind e));
+        stored = λ d n c e. absurd (no-glyph (ap kind e));
         unfinished = λ _ _. refl;
       }
 
@@ -307,59 +316,62 @@ a-command g ds s c P h =
 
 -- ---- a download's last column
 
--- what a define read to its end is answered is said of its own batch
-pub ends-own : (d : Batch) (c : Columns) (P : Batch → Type 0) → EndsDefine (GlyphEnd d c) P → (ltb (d .code) (d .last) ≡ false) × P d
-ends-own d c P x =
-    subst (λ (q : Batch). (ltb (q .code) (q .last) ≡ false) × P q) (sym (ap batchIn (x .2))) (x .3, x .4)
+-- what a define read to its end is answered is said of its own batch and note
+pub ends-own : (d : Batch) (n : Bool) (c : Columns) (P : Batch → Bool → Type 0) → EndsDefine (GlyphEnd d n c) P
+    → (ltb (d .code) (d .last) ≡ false) × P d n
+ends-own d n c P x =
+    subst (λ (q : Reading). (ltb (batchIn q .code) (batchIn q .last) ≡ false) × P (batchIn q) (noteIn q)) (sym (x .3)) (x .4, x .5)
 
-module _ (g : Module) (ds : List ℕ) (s : State) (d : Batch) (c : Columns) where
+module _ (g : Module) (ds : List ℕ) (s : State) (d : Batch) (n : Bool) (c : Columns) where
   -- it ends the define, or not
-  abbrev ends : (Batch → Type 0) → Type 0
-  ends P = EndsDefine (GlyphEnd d c) P
+  abbrev ends : (Batch → Bool → Type 0) → Type 0
+  ends P = EndsDefine (GlyphEnd d n c) P
 
   -- the answers that a define may be given: 9 before its end, else 15, 18 and 10
   glyph-by : (t : Meaning)
       → (number t ≢ 11) × (number t ≢ 12) × (number t ≢ 13) × (number t ≢ 14) × (number t ≢ 16) × (number t ≢ 17) × (number t ≢ 19)
       → ((number t ≡ 9) ↔ (ltb (d .code) (d .last) ≡ true))
-      → ((number t ≡ 10) ↔ ends (λ q. (isHeld (s .hold) ≡ false) × (someDropped ds q ≡ false)))
-      → ((number t ≡ 15) ↔ ends (λ q. isHeld (s .hold) ≡ true))
-      → ((number t ≡ 18) ↔ ends (λ q. (isHeld (s .hold) ≡ false) × (someDropped ds q ≡ true)))
+      → ((number t ≡ 10) ↔ ends (λ q k. (isHeld (s .hold) ≡ false) × (someDropped ds q k ≡ false)))
+      → ((number t ≡ 15) ↔ ends (λ q k. isHeld (s .hold) ≡ true))
+      → ((number t ≡ 18) ↔ ends (λ q k. (isHeld (s .hold) ≡ false) × (someDropped ds q k ≡ true)))
       → (11 ≤ number t → (t .state ≡ s) × (t .strokes ≡ []))
       → (11 ≤ number t → number t ≢ 18 → cond (isHeld (s .hold)) ds (putIn ds (d .code) c) ≡ ds)
-      → ByteAnswers g ds s (GlyphEnd d c) t (cond (isHeld (s .hold)) ds (putIn ds (d .code) c))
-  glyph-by t n nine ten fifteen eighteen same kept =
-      let r = GlyphEnd d c in
+      → ByteAnswers g ds s (GlyphEnd d n c) t (cond (isHeld (s .hold)) ds (putIn ds (d .code) c))
+  glyph-by t others nine ten fifteen eighteen same kept =
+      let r = GlyphEnd d n c in
       record {
         listed = number-range (t .outcome);
         number-9 = (λ e. rw (nine .0 e), λ e. nine .1 (not-false (ltb (d .code) (d .last)) e));
         number-10 = (λ e. inr (inr (ten .0 e)), ⊎-elim (λ e. absurd (false≢true e)) (⊎-elim (λ x. absurd (no-command r (omega arith) x)) (ten .1)));
-        number-11 = not-command r (omega arith) (n .0);
-        number-12 = neither (n .1) (unlike r Cancels (omega arith));
-        number-13 = neither (n .2) (unlike r UnknownCode (omega arith));
-        number-14 = not-command r (omega arith) (n .3);
+        number-11 = not-command r (omega arith) (others .0);
+        number-12 = neither (others .1) (unlike r Cancels (omega arith));
+        number-13 = neither (others .2) (unlike r UnknownCode (omega arith));
+        number-14 = not-command r (omega arith) (others .3);
         number-15 = (λ e. inr (fifteen .0 e), ⊎-elim (λ x. absurd (no-command r (omega arith) x)) (fifteen .1));
-        number-16 = not-command r (omega arith) (n .4);
-        number-17 = not-command r (omega arith) (n .5);
+        number-16 = not-command r (omega arith) (others .4);
+        number-17 = not-command r (omega arith) (others .5);
         number-18 = eighteen;
-        number-19 = not-command r (omega arith) (n .6);
+        number-19 = not-command r (omega arith) (others .6);
         unchanged = same;
         untouched = kept;
-        stored = λ q k e.
+        stored = λ q m k e.
             ap₂ (λ (b : Batch) (v : Columns). cond (isHeld (s .hold)) ds (putIn ds (b .code) v)) (ap batchIn e) (ap columnsIn e);
         unfinished = λ _ e. absurd (true≢false e);
       }
 
-module _ (g : Module) (font : Faces) (s : State) (d : Batch) (c : Columns) where
+module _ (g : Module) (font : Faces) (s : State) (d : Batch) (n : Bool) (c : Columns) where
   -- the same of any meaning that it comes to
-  as-meant : {t : Meaning} → takeOf g font s (GlyphEnd d c) ≡ t
-      → ByteAnswers g (font .store) (withHalf s Nothing) (GlyphEnd d c) t (takeStore g font s (GlyphEnd d c))
-      → ByteAnswers g (font .store) (withHalf s Nothing) (GlyphEnd d c) (takeOf g font s (GlyphEnd d c)) (takeStore g font s (GlyphEnd d c))
+  as-meant : {t : Meaning} → takeOf g font s (GlyphEnd d n c) ≡ t
+      → ByteAnswers g (font .store) (withHalf s Nothing) (GlyphEnd d n c) t (takeStore g font s (GlyphEnd d n c))
+      → ByteAnswers g (font .store) (withHalf s Nothing) (GlyphEnd d n c) (takeOf g font s (GlyphEnd d n c))
+      (takeStore g font s (GlyphEnd d n c))
   as-meant e a = rw e a
 
-  glyph-answers : ByteAnswers g (font .store) (withHalf s Nothing) (GlyphEnd d c) (takeOf g font s (GlyphEnd d c)) (takeStore g font s (GlyphEnd d c))
+  glyph-answers : ByteAnswers g (font .store) (withHalf s Nothing) (GlyphEnd d n c) (takeOf g font s (GlyphEnd d n c))
+      (takeStore g font s (GlyphEnd d n c))
   unfolding takeOf glyphEnds takeStore outcomeNumber
   glyph-answers =
-      go (ltb (d .code) (d .last)) (isHeld (s .hold)) (someDropped ds d) refl refl refl
+      go (ltb (d .code) (d .last)) (isHeld (s .hold)) (someDropped ds d n) refl refl refl
     where
       ds : List ℕ
       ds = font .store
@@ -367,36 +379,36 @@ module _ (g : Module) (font : Faces) (s : State) (d : Batch) (c : Columns) where
       s₀ : State
       s₀ = withHalf s Nothing
 
-      go : (l h n : Bool) → ltb (d .code) (d .last) ≡ l → isHeld (s .hold) ≡ h → someDropped ds d ≡ n
-          → ByteAnswers g ds s₀ (GlyphEnd d c) (takeOf g font s (GlyphEnd d c)) (takeStore g font s (GlyphEnd d c))
-      go true h n e f k =
+      go : (l h x : Bool) → ltb (d .code) (d .last) ≡ l → isHeld (s .hold) ≡ h → someDropped ds d n ≡ x
+          → ByteAnswers g ds s₀ (GlyphEnd d n c) (takeOf g font s (GlyphEnd d n c)) (takeStore g font s (GlyphEnd d n c))
+      go true h x e f k =
           as-meant (rw e)
-          (glyph-by g ds s₀ d c (means (withHalf s (GlyphWidth (nextCode d (noted ds (s .hold) d)))) Unfinished []) (omega arith)
+          (glyph-by g ds s₀ d n c (means (withHalf s (GlyphWidth (nextCode d) (noted ds (s .hold) d n))) Unfinished []) (omega arith)
           (λ _. e, λ _. refl)
-          (neither (omega arith) (λ x. true≢false (sym e ∙ ends-own d c _ x .0)))
-          (neither (omega arith) (λ x. true≢false (sym e ∙ ends-own d c _ x .0)))
-          (neither (omega arith) (λ x. true≢false (sym e ∙ ends-own d c _ x .0)))
+          (neither (omega arith) (λ x. true≢false (sym e ∙ ends-own d n c _ x .0)))
+          (neither (omega arith) (λ x. true≢false (sym e ∙ ends-own d n c _ x .0)))
+          (neither (omega arith) (λ x. true≢false (sym e ∙ ends-own d n c _ x .0)))
           (λ l. absurd (omega arith)) (λ l. absurd (omega arith)))
-      go false true n e f k =
+      go false true x e f k =
           as-meant (rw (e, f))
-          (glyph-by g ds s₀ d c (means s₀ WindowHeld []) (omega arith) (neither (omega arith) (λ x. true≢false (sym x ∙ e)))
-          (neither (omega arith) (λ x. true≢false (sym f ∙ ends-own d c _ x .1 .0)))
-          (λ _. (d, c, refl, e, f), λ _. refl)
-          (neither (omega arith) (λ x. true≢false (sym f ∙ ends-own d c _ x .1 .0)))
+          (glyph-by g ds s₀ d n c (means s₀ WindowHeld []) (omega arith) (neither (omega arith) (λ x. true≢false (sym x ∙ e)))
+          (neither (omega arith) (λ x. true≢false (sym f ∙ ends-own d n c _ x .1 .0)))
+          (λ _. (d, n, c, refl, e, f), λ _. refl)
+          (neither (omega arith) (λ x. true≢false (sym f ∙ ends-own d n c _ x .1 .0)))
           (λ _. (refl, refl)) (λ _ _. rw f))
       go false false true e f k =
           as-meant (rw (e, f, k))
-          (glyph-by g ds s₀ d c (means s₀ Dropped []) (omega arith) (neither (omega arith) (λ x. true≢false (sym x ∙ e)))
-          (neither (omega arith) (λ x. true≢false (sym k ∙ ends-own d c _ x .1 .1)))
-          (neither (omega arith) (λ x. false≢true (sym f ∙ ends-own d c _ x .1)))
-          (λ _. (d, c, refl, e, (f, k)), λ _. refl)
-          (λ _. (refl, refl)) (λ _ n. absurd (n refl)))
+          (glyph-by g ds s₀ d n c (means s₀ Dropped []) (omega arith) (neither (omega arith) (λ x. true≢false (sym x ∙ e)))
+          (neither (omega arith) (λ x. true≢false (sym k ∙ ends-own d n c _ x .1 .1)))
+          (neither (omega arith) (λ x. false≢true (sym f ∙ ends-own d n c _ x .1)))
+          (λ _. (d, n, c, refl, e, (f, k)), λ _. refl)
+          (λ _. (refl, refl)) (λ _ other. absurd (other refl)))
       go false false false e f k =
           as-meant (rw (e, f, k))
-          (glyph-by g ds s₀ d c (means s₀ Carried []) (omega arith) (neither (omega arith) (λ x. true≢false (sym x ∙ e)))
-          (λ _. (d, c, refl, e, (f, k)), λ _. refl)
-          (neither (omega arith) (λ x. false≢true (sym f ∙ ends-own d c _ x .1)))
-          (neither (omega arith) (λ x. false≢true (sym k ∙ ends-own d c _ x .1 .1)))
+          (glyph-by g ds s₀ d n c (means s₀ Carried []) (omega arith) (neither (omega arith) (λ x. true≢false (sym x ∙ e)))
+          (λ _. (d, n, c, refl, e, (f, k)), λ _. refl)
+          (neither (omega arith) (λ x. false≢true (sym f ∙ ends-own d n c _ x .1)))
+          (neither (omega arith) (λ x. false≢true (sym k ∙ ends-own d n c _ x .1 .1)))
           (λ l. absurd (omega arith)) (λ l. absurd (omega arith)))
 
 -- whatever is read
@@ -430,7 +442,7 @@ reading-answers g font s (Whole c) =
       number-19 = a-command g ds s₀ c (λ q. After16 s₀ q (q .notStored ≡ true)) (a .number-19);
       unchanged = a .unchanged;
       untouched = λ l _. command-kept g font s₀ c (omega arith);
-      stored = λ d q e. absurd (unlike r (GlyphEnd d q) (omega arith) e);
+      stored = λ d n q e. absurd (unlike r (GlyphEnd d n q) (omega arith) e);
       unfinished = λ e _. command-kept g font s₀ c (omega arith);
     }
 reading-answers g font s (ImageByte column row b next) =
@@ -443,7 +455,7 @@ reading-answers g font s (ImageEnd column row b) =
     plain-answers g _ _ r _ (omega arith) (omega arith) (omega arith) (neither (omega arith) true≢false) (λ _. refl, λ _. refl)
     (neither (omega arith) (unlike r Cancels (omega arith))) (neither (omega arith) (unlike r UnknownCode (omega arith)))
     (λ l. absurd (omega arith))
-reading-answers g font s (GlyphEnd d c) = glyph-answers g font s d c
+reading-answers g font s (GlyphEnd d n c) = glyph-answers g font s d n c
 reading-answers g font s Cancels =
     plain-answers g _ _ Cancels _ (omega arith) (omega arith) (omega arith) (neither (omega arith) true≢false)
     (neither (omega arith) false≢true) (λ _. refl, λ _. refl)

@@ -53,20 +53,20 @@ answered-met =
 
 -- demand-2-define: a define of 41h alone whose last column is awaited, with 00h
 abbrev someBatch : Batch
-someBatch = batch 0x41 0x41 0x41 false
+someBatch = batch 0x41 0x41 0x41
 
 abbrev someColumns : Columns
 someColumns = record { width = 5; come = 4; c0 = 0; c1 = 0; c2 = 0; c3 = 0; c4 = 0; c5 = 0; c6 = 0 }
 
-pub define-met : let s = withHalf (started panel) (GlyphByte someBatch someColumns) in
+pub define-met : let s = withHalf (started panel) (GlyphByte someBatch false someColumns) in
     (accepted panel s (allErased someDownloads) ≡ true) × (isHeld (s .hold) ≡ false)
-    × (readOf panel (s .half) 0x00 ≡ GlyphEnd someBatch (withColumn someColumns 0x00))
+    × (readOf panel (s .half) 0x00 ≡ GlyphEnd someBatch false (withColumn someColumns 0x00))
     × (ltb (someBatch .code) (someBatch .last) ≡ false)
 unfolding panel initialState isHeld readOf readColumn withColumn halfOk batchOk columnsOk restBlank halfNoteOk defineOk
 define-met =
     let ds = allErased someDownloads in
     let p = accepted-parts panel (started panel) ds (fed-met .2) in
-    let halves = half-parts panel (started panel) (parts panel (started panel) (p .0)) (GlyphByte someBatch someColumns) refl in
+    let halves = half-parts panel (started panel) (parts panel (started panel) (p .0)) (GlyphByte someBatch false someColumns) refl in
     (accepted-whole panel _ ds (whole panel _ halves) (p .1) (fresh-note ds 0x41 0x41), refl, refl, refl)
 
 -- demand-3 takes `InStep`: demand-3-met. laws_state/proofs/Held run-guest to feed-downloads

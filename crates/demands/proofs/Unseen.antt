@@ -120,7 +120,7 @@ module _ (g : Module) (font : Faces) (ps : List Span) (s : State) where
   reading-same (Whole c) = command-same ps (withHalf s Nothing) g font c
   reading-same (ImageByte column row b next) = refl
   reading-same (ImageEnd column row b) = refl
-  reading-same (GlyphEnd d c) = same-cond (respan ps) (ltb (d .code) (d .last)) refl refl
+  reading-same (GlyphEnd d n c) = same-cond (respan ps) (ltb (d .code) (d .last)) refl refl
   reading-same Cancels = refl
   reading-same UnknownCode = refl
 
@@ -136,7 +136,7 @@ module _ (g : Module) (font : Faces) (ps : List Span) (s : State) where
   reading-store-same (Whole c) = command-store-same ps (withHalf s Nothing) g font c
   reading-store-same (ImageByte column row b next) = refl
   reading-store-same (ImageEnd column row b) = refl
-  reading-store-same (GlyphEnd d c) = refl
+  reading-store-same (GlyphEnd d n c) = refl
   reading-store-same Cancels = refl
   reading-store-same UnknownCode = refl
 

@@ -179,7 +179,7 @@ finishes (More p) = false
 finishes (Whole c) = true
 finishes (ImageByte column row b next) = false
 finishes (ImageEnd column row b) = true
-finishes (GlyphEnd d c) = not (ltb (d .code) (d .last))
+finishes (GlyphEnd d n c) = not (ltb (d .code) (d .last))
 finishes Cancels = true
 finishes UnknownCode = true
 
@@ -188,7 +188,7 @@ endsImage (More p) = false
 endsImage (Whole c) = false
 endsImage (ImageByte column row b next) = false
 endsImage (ImageEnd column row b) = true
-endsImage (GlyphEnd d c) = false
+endsImage (GlyphEnd d n c) = false
 endsImage Cancels = false
 endsImage UnknownCode = false
 
@@ -197,20 +197,20 @@ endsGlyph (More p) = false
 endsGlyph (Whole c) = false
 endsGlyph (ImageByte column row b next) = false
 endsGlyph (ImageEnd column row b) = false
-endsGlyph (GlyphEnd d c) = true
+endsGlyph (GlyphEnd d n c) = true
 endsGlyph Cancels = false
 endsGlyph UnknownCode = false
 
 abbrev pub IsCommand : Module → List ℕ → State → Reading → (Asked → Type 0) → Type 0
 IsCommand g ds s r P = (c : Command) × (r ≡ Whole c) × P (askedOf g ds s c)
 
--- a define "read to its end": the columns of its last code have come
-abbrev pub EndsDefine : Reading → (Batch → Type 0) → Type 0
-EndsDefine r P = (d : Batch) × (c : Columns) × (r ≡ GlyphEnd d c) × (ltb (d .code) (d .last) ≡ false) × P d
+-- a define "read to its end": the columns of its last code have come; P of its codes and its note of a drop
+abbrev pub EndsDefine : Reading → (Batch → Bool → Type 0) → Type 0
+EndsDefine r P = (d : Batch) × (n : Bool) × (c : Columns) × (r ≡ GlyphEnd d n c) × (ltb (d .code) (d .last) ≡ false) × P d n
 
 -- "one of its codes was dropped": one before the last, or the last
-abbrev pub someDropped : List ℕ → Batch → Bool
-someDropped ds d = d .dropped || isDropped ds (d .code)
+abbrev pub someDropped : List ℕ → Batch → Bool → Bool
+someDropped ds d n = n || isDropped ds (d .code)
 
 -- "Order for one command: .. then 14, 15, 11, 17, 16", and 19 "after 15 and 11": P, and of a row and those before it none holds
 abbrev pub After14 : Asked → Type 0 → Type 0
@@ -238,7 +238,7 @@ pub record ByteAnswers (g : Module) (ds : List ℕ) (s : State) (r : Reading) (t
   pub number-10 : (outcomeNumber (t .outcome) ≡ 10)
       ↔ ((endsImage r ≡ true)
       ⊎ (IsCommand g ds s r (λ a. After16 s a (a .notStored ≡ false))
-      ⊎ EndsDefine r (λ d. (isHeld (s .hold) ≡ false) × (someDropped ds d ≡ false))))
+      ⊎ EndsDefine r (λ d n. (isHeld (s .hold) ≡ false) × (someDropped ds d n ≡ false))))
   -- 11: "command read whole, a parameter out of its domain"
   pub number-11 : (outcomeNumber (t .outcome) ≡ 11) ↔ IsCommand g ds s r (λ a. After15 s a (a .outOfDomain ≡ true))
   -- 12: "cancelled at a byte"
@@ -250,14 +250,14 @@ pub record ByteAnswers (g : Module) (ds : List ℕ) (s : State) (r : Reading) (t
   -- 15: "refused because a window is held, read whole"
   pub number-15 : (outcomeNumber (t .outcome) ≡ 15)
       ↔ (IsCommand g ds s r (λ a. After14 a ((a .ownersOnly && isHeld (s .hold)) ≡ true))
-      ⊎ EndsDefine r (λ d. isHeld (s .hold) ≡ true))
+      ⊎ EndsDefine r (λ d n. isHeld (s .hold) ≡ true))
   -- 16: "a character, BS, HT or LF while the character cell exceeds the range"
   pub number-16 : (outcomeNumber (t .outcome) ≡ 16) ↔ IsCommand g ds s r (λ a. After17 s a (a .tooLarge ≡ true))
   -- 17: "select of an undefined window"
   pub number-17 : (outcomeNumber (t .outcome) ≡ 17) ↔ IsCommand g ds s r (λ a. After11 s a (a .notDefined ≡ true))
   -- 18: "a define read to its end answers 18 exactly if one of its codes was dropped"
   pub number-18 : (outcomeNumber (t .outcome) ≡ 18)
-      ↔ EndsDefine r (λ d. (isHeld (s .hold) ≡ false) × (someDropped ds d ≡ true))
+      ↔ EndsDefine r (λ d n. (isHeld (s .hold) ≡ false) × (someDropped ds d n ≡ true))
   -- 19: "Erasing an absent code: 19, tested after 15 and 11"
   pub number-19 : (outcomeNumber (t .outcome) ≡ 19) ↔ IsCommand g ds s r (λ a. After16 s a (a .notStored ≡ true))
   -- "no dot, cursor, window or setting changes by a command so answered": nothing is half read, and that is all
@@ -265,7 +265,7 @@ pub record ByteAnswers (g : Module) (ds : List ℕ) (s : State) (r : Reading) (t
   -- nor does a download, but for a define of which a code was dropped: "its other codes stay stored"
   pub untouched : 11 ≤ outcomeNumber (t .outcome) → outcomeNumber (t .outcome) ≢ 18 → es ≡ ds
   -- "Each is stored when its last byte arrives", and "While held, define and erase .. store or erase nothing"
-  pub stored : (d : Batch) (c : Columns) → r ≡ GlyphEnd d c → es ≡ cond (isHeld (s .hold)) ds (putIn ds (d .code) c)
+  pub stored : (d : Batch) (n : Bool) (c : Columns) → r ≡ GlyphEnd d n c → es ≡ cond (isHeld (s .hold)) ds (putIn ds (d .code) c)
   -- any other byte that finishes nothing leaves them as they are
   pub unfinished : outcomeNumber (t .outcome) ≡ 9 → endsGlyph r ≡ false → es ≡ ds
 

@@ -35,8 +35,8 @@ module _ (g : Module) where
   begins-ok (one-more {p = p} b s l e) = rw e at (reads-ok g p b (begins-ok s))
   begins-ok (one-stored {p = p} {q = q} b column row s l e) =
       image-byte-facts g column row b q (rw e at (reads-ok g p b (begins-ok s))) .2
-  begins-ok (one-glyph {p = p} b d c s l e m) =
-      next-ok g d (d .dropped) (glyph-end-facts g d c (rw e at (reads-ok g p b (begins-ok s))) .0) m
+  begins-ok (one-glyph {p = p} b d n c s l e m) =
+      next-ok g d n n (glyph-end-facts g d n c (rw e at (reads-ok g p b (begins-ok s))) .0) m
   begins-ok (any-note d dropped s) = begins-ok s
 
   -- ---- bytes, one after the other
@@ -54,13 +54,12 @@ module _ (g : Module) where
   stored column row e s = record { bytes = s .bytes ++ (0 ∷ []); begins = one-stored 0 column row (s .begins) (omega arith) e }
 
   -- a download's last column more, another code following
-  glyph : {p : Half} (d : Batch) (c : Columns) → readOf g p 0 ≡ GlyphEnd d c → ltb (d .code) (d .last) ≡ true → Beginning g p
-      → Beginning g (GlyphWidth (nextCode d (d .dropped)))
-  glyph d c e m s = record { bytes = s .bytes ++ (0 ∷ []); begins = one-glyph 0 d c (s .begins) (omega arith) e m }
+  glyph : {p : Half} (d : Batch) (n : Bool) (c : Columns) → readOf g p 0 ≡ GlyphEnd d n c → ltb (d .code) (d .last) ≡ true
+      → Beginning g p → Beginning g (GlyphWidth (nextCode d) n)
+  glyph d n c e m s = record { bytes = s .bytes ++ (0 ∷ []); begins = one-glyph 0 d n c (s .begins) (omega arith) e m }
 
   -- whether a code was dropped is no matter
-  again : (d : Batch) (dropped : Bool) → Beginning g (GlyphWidth d)
-      → Beginning g (GlyphWidth (batch (d .first) (d .code) (d .last) dropped))
+  again : {n : Bool} (d : Batch) (dropped : Bool) → Beginning g (GlyphWidth d n) → Beginning g (GlyphWidth d dropped)
   again d dropped s = record { bytes = s .bytes; begins = any-note d dropped (s .begins) }
 
   -- ---- the openers
@@ -147,11 +146,12 @@ module _ (g : Module) where
   define-to d from h l = more from l (rw h) (define-from d)
 
   -- a download's columns, one after the other
-  glyph-columns : (d : Batch) (c : Columns) → columnsOk c ≡ true → ColumnsFit c → Beginning g (GlyphWidth d) → Beginning g (GlyphByte d c)
+  glyph-columns : (d : Batch) (n : Bool) (c : Columns) → columnsOk c ≡ true → ColumnsFit c → Beginning g (GlyphWidth d n)
+      → Beginning g (GlyphByte d n c)
   unfolding readOf readColumn withColumn
-  glyph-columns d c h f s =
+  glyph-columns d n c h f s =
       let e = columns-facts c h in
-      subst (λ (k : Columns). Beginning g (GlyphByte d k)) (first-all c (e .2)) (come (c .come) (omega arith)) where
+      subst (λ (k : Columns). Beginning g (GlyphByte d n k)) (first-all c (e .2)) (come (c .come) (omega arith)) where
         -- those are bytes
         byte : (n : ℕ) → columnOf c n < 256
         byte zero = f .2
@@ -163,42 +163,42 @@ module _ (g : Module) where
         byte (suc (suc (suc (suc (suc (suc zero)))))) = f .8
         byte (suc (suc (suc (suc (suc (suc (suc n))))))) = omega arith
 
-        -- the first n of them
-        come : (n : ℕ) → n < c .width → Beginning g (GlyphByte d (firstOf c n))
+        -- the first k of them
+        come : (k : ℕ) → k < c .width → Beginning g (GlyphByte d n (firstOf c k))
         come zero l = more (c .width) (f .0) (rw (columns-facts c h .0)) s
-        come (suc n) l =
-            more (columnOf c n) (byte n)
-            (rw (lt-ltb (n + 1) (c .width) (omega arith)) (ap (λ (k : Columns). More (GlyphByte d k)) (first-more c n ∙ ap (firstOf c) (add-one n))))
-            (come n (omega arith))
+        come (suc k) l =
+            more (columnOf c k) (byte k)
+            (rw (lt-ltb (k + 1) (c .width) (omega arith))
+            (ap (λ (x : Columns). More (GlyphByte d n x)) (first-more c k ∙ ap (firstOf c) (add-one k))))
+            (come k (omega arith))
 
   -- five columns of zeros, but the last of them
   abbrev fiveZeros : Columns
   fiveZeros = record { width = 5; come = 4; c0 = 0; c1 = 0; c2 = 0; c3 = 0; c4 = 0; c5 = 0; c6 = 0 }
 
-  -- the width of the code that n codes of its define stand before
+  -- the width of the code that n codes of its define stand before, no drop being noted
   codes : g .downloads ≡ true → (n : ℕ) (d : Batch) → d .first + n ≡ d .code → d .code ≤ d .last → leb 0x20 (d .first) ≡ true
-      → BatchFits d → Beginning g (GlyphWidth d)
+      → BatchFits d → Beginning g (GlyphWidth d false)
   unfolding readOf readColumn withColumn columnsOk restBlank
   codes k zero d e o h f =
       let first : d .first ≡ d .code = omega arith in
-      subst (λ (i : ℕ). Beginning g (GlyphWidth (batch (d .first) i (d .last) (d .dropped)))) first
-      (again (batch (d .first) (d .first) (d .last) false) (d .dropped)
-      (more (d .last) (f .2) (rw (le-leb (d .first) (d .last) (omega arith))) (define-to k (d .first) h (f .0))))
+      subst (λ (i : ℕ). Beginning g (GlyphWidth (batch (d .first) i (d .last)) false)) first
+      (more (d .last) (f .2) (rw (le-leb (d .first) (d .last) (omega arith))) (define-to k (d .first) h (f .0)))
   codes k (suc n) d e o h f =
-      let before = batch (d .first) (d .first + n) (d .last) (d .dropped) in
+      let before = batch (d .first) (d .first + n) (d .last) in
       let after : d .first + n + 1 ≡ d .code = omega arith in
-      subst (λ (i : ℕ). Beginning g (GlyphWidth (batch (d .first) i (d .last) (d .dropped)))) after
-      (glyph before (withColumn fiveZeros 0) refl (lt-ltb (d .first + n) (d .last) (omega arith))
-      (glyph-columns before fiveZeros refl (omega arith) (codes k n before refl (omega arith) h (f .0, omega arith, f .2))))
+      subst (λ (i : ℕ). Beginning g (GlyphWidth (batch (d .first) i (d .last)) false)) after
+      (glyph before false (withColumn fiveZeros 0) refl (lt-ltb (d .first + n) (d .last) (omega arith))
+      (glyph-columns before false fiveZeros refl (omega arith) (codes k n before refl (omega arith) h (f .0, omega arith, f .2))))
 
-  -- any accepted one
-  glyph-width : g .downloads ≡ true → (d : Batch) → batchOk d ≡ true → BatchFits d → Beginning g (GlyphWidth d)
+  -- any accepted one, with any note
+  glyph-width : g .downloads ≡ true → (d : Batch) (n : Bool) → batchOk d ≡ true → BatchFits d → Beginning g (GlyphWidth d n)
   unfolding batchOk
-  glyph-width k d h f =
+  glyph-width k d n h f =
       let o = both-of (leb 0x20 (d .first)) _ h in
       let c = both-of (leb (d .first) (d .code)) (leb (d .code) (d .last)) (o .1) in
       let l = leb-true (d .first) (d .code) (c .0) in
-      codes k (d .code - d .first) d (omega arith) (leb-true (d .code) (d .last) (c .1)) (o .0) f
+      again d n (codes k (d .code - d .first) d (omega arith) (leb-true (d .code) (d .last) (c .1)) (o .0) f)
 
   -- a download to be erased
   erase-a : g .downloads ≡ true → Beginning g EraseA
@@ -342,11 +342,11 @@ module _ (g : Module) where
   ok-begins DownloadFrom h f = define-from h
   ok-begins (DownloadTo from) h f =
       let d = both-of (g .downloads) (leb 0x20 from) h in define-to (d .0) from (d .1) f
-  ok-begins (GlyphWidth d) h f = let e = both-of (g .downloads) (batchOk d) h in glyph-width (e .0) d (e .1) f
-  ok-begins (GlyphByte d c) h f =
+  ok-begins (GlyphWidth d n) h f = let e = both-of (g .downloads) (batchOk d) h in glyph-width (e .0) d n (e .1) f
+  ok-begins (GlyphByte d n c) h f =
       let e = both-of (g .downloads) _ h in
       let b = both-of (batchOk d) (columnsOk c) (e .1) in
-      glyph-columns d c (b .1) (f .1) (glyph-width (e .0) d (b .0) (f .0))
+      glyph-columns d n c (b .1) (f .1) (glyph-width (e .0) d n (b .0) (f .0))
   ok-begins (Low w) h f = low w h f
   ok-begins (High w low-byte) h f = more low-byte (f .1) refl (low w h (f .0))
   ok-begins (ImageKind width height) h f = image-kind width height h (f .0) (f .1)

@@ -80,35 +80,35 @@ module _ (g : Module) where
   -- ---- a define of downloads
 
   -- a download's last column, which ends the define or is followed by the next code's width
-  glyph-end : {p : Half} (d : Batch) (c : Columns) (t : Bool) → readOf g p 0 ≡ GlyphEnd d c → ltb (d .code) (d .last) ≡ t
-      → (t ≡ true → Finished g (GlyphWidth (nextCode d (d .dropped)))) → Finished g p
-  glyph-end d c true e l next =
-      record { bytes = 0 ∷ next refl .bytes; finishes = then-glyph 0 d c (d .dropped) (omega arith) e l (next refl .finishes) }
-  glyph-end d c false e l next = record { bytes = 0 ∷ []; finishes = last-glyph 0 d c (omega arith) e l }
+  glyph-end : {p : Half} (d : Batch) (n : Bool) (c : Columns) (t : Bool) → readOf g p 0 ≡ GlyphEnd d n c → ltb (d .code) (d .last) ≡ t
+      → (t ≡ true → Finished g (GlyphWidth (nextCode d) n)) → Finished g p
+  glyph-end d n c true e l next =
+      record { bytes = 0 ∷ next refl .bytes; finishes = then-glyph 0 d n c n (omega arith) e l (next refl .finishes) }
+  glyph-end d n c false e l next = record { bytes = 0 ∷ []; finishes = last-glyph 0 d n c (omega arith) e l }
 
-  -- a download's columns, n of them after the next
-  glyph-columns : (n : ℕ) (d : Batch) (c : Columns) → c .come + 1 + n ≡ c .width
-      → (ltb (d .code) (d .last) ≡ true → Finished g (GlyphWidth (nextCode d (d .dropped)))) → Finished g (GlyphByte d c)
+  -- a download's columns, k of them after the next
+  glyph-columns : (k : ℕ) (d : Batch) (n : Bool) (c : Columns) → c .come + 1 + k ≡ c .width
+      → (ltb (d .code) (d .last) ≡ true → Finished g (GlyphWidth (nextCode d) n)) → Finished g (GlyphByte d n c)
   unfolding readOf readColumn withColumn
-  glyph-columns zero d c h next =
-      glyph-end d (withColumn c 0) (ltb (d .code) (d .last)) (rw (le-ltb (c .come + 1) (c .width) (omega arith))) refl next
-  glyph-columns (suc n) d c h next =
-      before 0 (omega arith) (rw (lt-ltb (c .come + 1) (c .width) (omega arith))) (glyph-columns n d (withColumn c 0) (omega arith) next)
+  glyph-columns zero d n c h next =
+      glyph-end d n (withColumn c 0) (ltb (d .code) (d .last)) (rw (le-ltb (c .come + 1) (c .width) (omega arith))) refl next
+  glyph-columns (suc k) d n c h next =
+      before 0 (omega arith) (rw (lt-ltb (c .come + 1) (c .width) (omega arith))) (glyph-columns k d n (withColumn c 0) (omega arith) next)
 
-  -- a download's width, n codes or fewer being left after it
-  glyphs : (n : ℕ) (d : Batch) → d .last ≤ d .code + n → Finished g (GlyphWidth d)
+  -- a download's width, k codes or fewer being left after it
+  glyphs : (k : ℕ) (d : Batch) (n : Bool) → d .last ≤ d .code + k → Finished g (GlyphWidth d n)
   unfolding readOf
-  glyphs zero d h =
+  glyphs zero d n h =
       before 5 (omega arith) refl
-      (glyph-columns 4 d (noColumns 5) (omega arith) (λ e. let m = ltb-true (d .code) (d .last) e in absurd (omega arith)))
-  glyphs (suc n) d h =
+      (glyph-columns 4 d n (noColumns 5) (omega arith) (λ e. let m = ltb-true (d .code) (d .last) e in absurd (omega arith)))
+  glyphs (suc k) d n h =
       before 5 (omega arith) refl
-      (glyph-columns 4 d (noColumns 5) (omega arith) (λ _. glyphs n (nextCode d (d .dropped)) (omega arith)))
+      (glyph-columns 4 d n (noColumns 5) (omega arith) (λ _. glyphs k (nextCode d) n (omega arith)))
 
   -- its c2, after which it has one code
   to : (from : ℕ) → from < 256 → Finished g (DownloadTo from)
   unfolding readOf
-  to from l = before from l (rw (le-leb from from (omega arith))) (glyphs 0 (batch from from from false) (omega arith))
+  to from l = before from l (rw (le-leb from from (omega arith))) (glyphs 0 (batch from from from) false (omega arith))
 
   -- its c1
   from : Finished g DownloadFrom
@@ -249,11 +249,11 @@ module _ (g : Module) where
     ok-finishes DownloadA h f = inl (before 1 (omega arith) refl from)
     ok-finishes DownloadFrom h f = inl from
     ok-finishes (DownloadTo c) h f = inl (to c f)
-    ok-finishes (GlyphWidth d) h f = inl (glyphs (d .last) d (omega arith))
-    ok-finishes (GlyphByte d c) h f =
+    ok-finishes (GlyphWidth d n) h f = inl (glyphs (d .last) d n (omega arith))
+    ok-finishes (GlyphByte d n c) h f =
         let b = both-of (batchOk d) (columnsOk c) (both-of (g .downloads) _ h .1) in
         let e = columns-facts c (b .1) in
-        inl (glyph-columns (c .width - 1 - c .come) d c (omega (arith, e .1)) (λ _. glyphs (d .last) (nextCode d (d .dropped)) (omega arith)))
+        inl (glyph-columns (c .width - 1 - c .come) d n c (omega (arith, e .1)) (λ _. glyphs (d .last) (nextCode d) n (omega arith)))
     ok-finishes (Low w) h f = inl (low w h)
     ok-finishes (High w n) h f = high w n h
     ok-finishes (ImageKind width height) h f =

@@ -165,10 +165,10 @@ module _ (g : Module) where
       (λ e. let m = leb-false left 1 e in passes (between-true 1 5 (left - 1) (omega arith) (omega arith)))
 
   -- a define's codes, of which the last may be the next
-  pub next-ok : (d : Batch) (dropped : Bool) → halfOk g (GlyphWidth d) ≡ true → ltb (d .code) (d .last) ≡ true
-      → halfOk g (GlyphWidth (nextCode d dropped)) ≡ true
+  pub next-ok : (d : Batch) (n dropped : Bool) → halfOk g (GlyphWidth d n) ≡ true → ltb (d .code) (d .last) ≡ true
+      → halfOk g (GlyphWidth (nextCode d) dropped) ≡ true
   unfolding halfOk batchOk
-  next-ok d dropped h e =
+  next-ok d n dropped h e =
       let f = both-of (g .downloads) _ h in
       let o = both-of (leb 0x20 (d .first)) _ (f .1) in
       let c = leb-true (d .first) (d .code) (both-of (leb (d .first) (d .code)) _ (o .1) .0) in
@@ -176,10 +176,10 @@ module _ (g : Module) where
       rw (f .0, o .0, le-leb (d .first) (d .code + 1) (omega arith), le-leb (d .code + 1) (d .last) (omega arith))
 
   -- a download's width, with which its columns begin
-  width-ok : (d : Batch) (x : ℕ) → halfOk g (GlyphWidth d) ≡ true → (eqb x 5 || eqb x 7) ≡ true
-      → halfOk g (GlyphByte d (noColumns x)) ≡ true
+  width-ok : (d : Batch) (n : Bool) (x : ℕ) → halfOk g (GlyphWidth d n) ≡ true → (eqb x 5 || eqb x 7) ≡ true
+      → halfOk g (GlyphByte d n (noColumns x)) ≡ true
   unfolding halfOk columnsOk restBlank
-  width-ok d x h e =
+  width-ok d n x h e =
       let f = both-of (g .downloads) (batchOk d) h in
       rw (f .0, f .1, e, lt-ltb 0 x (some x (eqb x 5) refl e))
     where
@@ -188,9 +188,10 @@ module _ (g : Module) where
       some x false i h = let m = eqb-true x 7 h in omega arith
 
   -- a download's next column
-  column-ok : (d : Batch) (c : Columns) (b : ℕ) → halfOk g (GlyphByte d c) ≡ true → Passes (readColumn d (withColumn c b))
+  column-ok : (d : Batch) (n : Bool) (c : Columns) (b : ℕ) → halfOk g (GlyphByte d n c) ≡ true
+      → Passes (readColumn d n (withColumn c b))
   unfolding readColumn withColumn readingOk halfOk
-  column-ok d c b h =
+  column-ok d n c b h =
       let f = both-of (g .downloads) _ h in
       let e = both-of (batchOk d) (columnsOk c) (f .1) in
       by (ltb (c .come + 1) (c .width))
@@ -258,9 +259,9 @@ module _ (g : Module) where
   every-ok DownloadFrom b h = if-ok (leb 0x20 b) (DownloadTo b) (λ e. rw (h, e))
   every-ok (DownloadTo from) b h =
       let d = both-of (g .downloads) (leb 0x20 from) h in
-      if-ok (leb from b) (GlyphWidth (batch from from b false)) (λ e. rw (d .0, d .1, le-leb from from (omega arith), e))
-  every-ok (GlyphWidth d) b h = if-ok (eqb b 5 || eqb b 7) (GlyphByte d (noColumns b)) (λ e. width-ok d b h e)
-  every-ok (GlyphByte d c) b h = column-ok d c b h
+      if-ok (leb from b) (GlyphWidth (batch from from b) false) (λ e. rw (d .0, d .1, le-leb from from (omega arith), e))
+  every-ok (GlyphWidth d n) b h = if-ok (eqb b 5 || eqb b 7) (GlyphByte d n (noColumns b)) (λ e. width-ok d n b h e)
+  every-ok (GlyphByte d n c) b h = column-ok d n c b h
   every-ok (Low w) b h = passes h
   every-ok (High w low) b h = word-ok w (word16 low b) h
   every-ok (ImageKind width height) b h = if-ok (eqb b 1) (ImageData width height 0 0) (λ _. kind-ok width height h)
@@ -289,7 +290,7 @@ module _ (g : Module) where
       (ltb-true column (g .columns) (f .0), ltb-true row (g .rows) (e .0), e .1)
 
   -- a download whose last column has come: its define, and its columns
-  pub glyph-end-facts : (d : Batch) (c : Columns) → readingOk g (GlyphEnd d c) ≡ true
-      → (halfOk g (GlyphWidth d) ≡ true) × (wholeColumns c ≡ true)
+  pub glyph-end-facts : (d : Batch) (n : Bool) (c : Columns) → readingOk g (GlyphEnd d n c) ≡ true
+      → (halfOk g (GlyphWidth d n) ≡ true) × (wholeColumns c ≡ true)
   unfolding readingOk
-  glyph-end-facts d c h = both-of (halfOk g (GlyphWidth d)) (wholeColumns c) h
+  glyph-end-facts d n c h = both-of (halfOk g (GlyphWidth d n)) (wholeColumns c) h

@@ -15,7 +15,7 @@ use Rattle.paper.specs.declared.Half.{Half}
 use Rattle.paper.specs.declared.Half.the-variants.{Nothing, Escape, Group, Actions, Images, Characters, Windows, Value, Rest, DownloadA, DownloadFrom, DownloadTo, GlyphWidth, GlyphByte, Low, High, ImageKind, ImageData, EnlargeX, EnlargeY, SelectA, WindowA, WindowB, EraseA, EraseCode}
 use Rattle.paper.specs.declared.Command.{Command}
 use Rattle.paper.specs.declared.Reading.the-variants.{More, Whole, ImageByte, ImageEnd, GlyphEnd, Cancels}
-use Rattle.paper.specs.Reading.{batch, nextCode, readOf}
+use Rattle.paper.specs.Reading.{nextCode, readOf}
 
 -- the bytes, in the order in which they are read, begin a command, and this is half read after the last of them
 pub data Begins (g : Module) : List ℕ → Half → Type 0 where
@@ -23,11 +23,10 @@ pub data Begins (g : Module) : List ℕ → Half → Type 0 where
   one-more : {bs : List ℕ} {p q : Half} (b : ℕ) → Begins g bs p → b < 256 → readOf g p b ≡ More q → Begins g (bs ++ (b ∷ [])) q
   one-stored : {bs : List ℕ} {p q : Half} (b column row : ℕ) → Begins g bs p → b < 256 → readOf g p b ≡ ImageByte column row b q
       → Begins g (bs ++ (b ∷ [])) q
-  one-glyph : {bs : List ℕ} {p : Half} (b : ℕ) (d : Batch) (c : Columns) → Begins g bs p → b < 256 → readOf g p b ≡ GlyphEnd d c
-      → ltb (d .code) (d .last) ≡ true → Begins g (bs ++ (b ∷ [])) (GlyphWidth (nextCode d (d .dropped)))
+  one-glyph : {bs : List ℕ} {p : Half} (b : ℕ) (d : Batch) (n : Bool) (c : Columns) → Begins g bs p → b < 256
+      → readOf g p b ≡ GlyphEnd d n c → ltb (d .code) (d .last) ≡ true → Begins g (bs ++ (b ∷ [])) (GlyphWidth (nextCode d) n)
   -- whether a code was dropped is no matter of the reading rules
-  any-note : {bs : List ℕ} (d : Batch) (dropped : Bool) → Begins g bs (GlyphWidth d)
-      → Begins g bs (GlyphWidth (batch (d .first) (d .code) (d .last) dropped))
+  any-note : {bs : List ℕ} {n : Bool} (d : Batch) (dropped : Bool) → Begins g bs (GlyphWidth d n) → Begins g bs (GlyphWidth d dropped)
 
 -- some bytes lead to a half-read command
 pub record Beginning (g : Module) (p : Half) : Type 0 where
@@ -41,11 +40,12 @@ pub data Finishes (g : Module) : Half → List ℕ → Type 0 where
   then-more : {p q : Half} {bs : List ℕ} (b : ℕ) → b < 256 → readOf g p b ≡ More q → Finishes g q bs → Finishes g p (b ∷ bs)
   then-stored : {p q : Half} {bs : List ℕ} (b column row : ℕ) → b < 256 → readOf g p b ≡ ImageByte column row b q → Finishes g q bs
       → Finishes g p (b ∷ bs)
-  last-glyph : {p : Half} (b : ℕ) (d : Batch) (c : Columns) → b < 256 → readOf g p b ≡ GlyphEnd d c → ltb (d .code) (d .last) ≡ false
-      → Finishes g p (b ∷ [])
+  last-glyph : {p : Half} (b : ℕ) (d : Batch) (n : Bool) (c : Columns) → b < 256 → readOf g p b ≡ GlyphEnd d n c
+      → ltb (d .code) (d .last) ≡ false → Finishes g p (b ∷ [])
   -- whatever the note of a drop
-  then-glyph : {p : Half} {bs : List ℕ} (b : ℕ) (d : Batch) (c : Columns) (dropped : Bool) → b < 256 → readOf g p b ≡ GlyphEnd d c
-      → ltb (d .code) (d .last) ≡ true → Finishes g (GlyphWidth (nextCode d dropped)) bs → Finishes g p (b ∷ bs)
+  then-glyph : {p : Half} {bs : List ℕ} (b : ℕ) (d : Batch) (n : Bool) (c : Columns) (dropped : Bool) → b < 256
+      → readOf g p b ≡ GlyphEnd d n c → ltb (d .code) (d .last) ≡ true → Finishes g (GlyphWidth (nextCode d) dropped) bs
+      → Finishes g p (b ∷ bs)
 
 -- some bytes lead from a half-read command to a whole one
 pub record Finished (g : Module) (p : Half) : Type 0 where
@@ -105,8 +105,8 @@ Fits (Rest left) = Byte left
 Fits DownloadA = Unit {0}
 Fits DownloadFrom = Unit {0}
 Fits (DownloadTo from) = Byte from
-Fits (GlyphWidth d) = BatchFits d
-Fits (GlyphByte d c) = BatchFits d × ColumnsFit c
+Fits (GlyphWidth d n) = BatchFits d
+Fits (GlyphByte d n c) = BatchFits d × ColumnsFit c
 Fits (Low w) = WordFits w
 Fits (High w low) = WordFits w × Byte low
 Fits (ImageKind width height) = Short width × Short height

@@ -44,6 +44,6 @@ readingOk g (More p) = halfOk g p
 readingOk g (Whole c) = commandOk c
 readingOk g (ImageByte column row b next) = ltb column (g .columns) && (ltb row (g .rows) && halfOk g next)
 readingOk g (ImageEnd column row b) = ltb column (g .columns) && ltb row (g .rows)
-readingOk g (GlyphEnd d c) = halfOk g (GlyphWidth d) && wholeColumns c
+readingOk g (GlyphEnd d n c) = halfOk g (GlyphWidth d n) && wholeColumns c
 readingOk g Cancels = true
 readingOk g UnknownCode = true

@@ -43,7 +43,7 @@ all-put ds first code c h =
 -- ---- the note
 
 -- before a define's first code is read
-pub fresh-note : (ds : List ℕ) (first last : ℕ) → noteOk ds (batch first first last false) ≡ true
+pub fresh-note : (ds : List ℕ) (first last : ℕ) → noteOk ds (batch first first last) false ≡ true
 unfolding noteOk allStored
 fresh-note ds first last = rw none
   where
@@ -67,23 +67,23 @@ batch-facts d ok =
     (leb-true 0x20 (d .first) (low .0), leb-true (d .first) (d .code) (on .0))
 
 -- a code's last column: it is stored or dropped, and the note tells of it
-pub note-kept : (ds : List ℕ) (d : Batch) (c : Columns) → storeOk ds ≡ true → batchOk d ≡ true → noteOk ds d ≡ true
-    → noteOk (putIn ds (d .code) c) (nextCode d (d .dropped || isDropped ds (d .code))) ≡ true
+pub note-kept : (ds : List ℕ) (d : Batch) (n : Bool) (c : Columns) → storeOk ds ≡ true → batchOk d ≡ true → noteOk ds d n ≡ true
+    → noteOk (putIn ds (d .code) c) (nextCode d) (n || isDropped ds (d .code)) ≡ true
 unfolding noteOk
-note-kept ds d c ok bok note =
+note-kept ds d n c ok bok note =
     let b = batch-facts d bok in
     rw (
       all-next (putIn ds (d .code) c) (d .first) (d .code) (b .1),
       all-put ds (d .first) (d .code) c (omega arith),
       put-stored ds (d .code) c (store-length ds ok),
     )
-    (note-next (allStored ds (d .first) (d .code)) (isFull ds) (d .dropped) (isDropped ds (d .code))
+    (note-next (allStored ds (d .first) (d .code)) (isFull ds) n (isDropped ds (d .code))
     (isFull (putIn ds (d .code) c)) (put-full ds (d .code) c (omega arith)) (dropped-full ds (d .code)) note)
 
 -- what the note says: "18 exactly if one of its codes was dropped"
-pub note-says : (ds : List ℕ) (d : Batch) → noteOk ds d ≡ true → d .dropped ≡ not (allStored ds (d .first) (d .code))
+pub note-says : (ds : List ℕ) (d : Batch) (n : Bool) → noteOk ds d n ≡ true → n ≡ not (allStored ds (d .first) (d .code))
 unfolding noteOk
-note-says ds d = says (allStored ds (d .first) (d .code)) (d .dropped) (isFull ds)
+note-says ds d n = says (allStored ds (d .first) (d .code)) n (isFull ds)
   where
     says : (a n f : Bool) → cond a (not n) (n && f) ≡ true → n ≡ not a
     says true true f h = absurd (false≢true h)

@@ -24,7 +24,7 @@ Next (More p) = Fits p
 Next (Whole c) = Unit {0}
 Next (ImageByte column row b p) = Fits p
 Next (ImageEnd column row b) = Unit {0}
-Next (GlyphEnd d c) = BatchFits d
+Next (GlyphEnd d n c) = BatchFits d
 Next Cancels = Unit {0}
 Next UnknownCode = Unit {0}
 
@@ -127,9 +127,10 @@ module _ (g : Module) where
       (either (eqb b 0x11) (fitting (omega arith)) (either (eqb b 0x40) (fitting (omega arith)) (fitting tt))))
 
   -- a column of a download
-  column-fits : (d : Batch) (c : Columns) (b : ℕ) → BatchFits d → ColumnsFit c → b < 256 → Fitting (readColumn d (withColumn c b))
+  column-fits : (d : Batch) (n : Bool) (c : Columns) (b : ℕ) → BatchFits d → ColumnsFit c → b < 256
+      → Fitting (readColumn d n (withColumn c b))
   unfolding readColumn withColumn
-  column-fits d c b f h l =
+  column-fits d n c b f h l =
       by (ltb (c .come + 1) (c .width))
       (λ e.
       let m = ltb-true (c .come + 1) (c .width) e in
@@ -141,8 +142,8 @@ module _ (g : Module) where
       either-fits true k = l
       either-fits false k = k
 
-      here : (n : ℕ) {x : ℕ} → x < 256 → cond (eqb (c .come) n) b x < 256
-      here n k = either-fits (eqb (c .come) n) k
+      here : (i : ℕ) {x : ℕ} → x < 256 → cond (eqb (c .come) i) b x < 256
+      here i k = either-fits (eqb (c .come) i) k
 
   -- every half-read command
   next-fits : (p : Half) (b : ℕ) → Fits p → b < 256 → Fitting (readOf g p b)
@@ -161,9 +162,11 @@ module _ (g : Module) where
   next-fits (Rest left) b f l = either (leb left 1) (fitting tt) (fitting (omega arith))
   next-fits DownloadA b f l = if-fits (eqb b 1) DownloadFrom tt
   next-fits DownloadFrom b f l = if-fits (leb 0x20 b) (DownloadTo b) l
-  next-fits (DownloadTo from) b f l = if-fits (leb from b) (GlyphWidth (batch from from b false)) (f, f, l)
-  next-fits (GlyphWidth d) b f l = if-fits (eqb b 5 || eqb b 7) (GlyphByte d (noColumns b)) (f, (l, zero-fits, zero-fits, zero-fits, zero-fits, zero-fits, zero-fits, zero-fits, zero-fits))
-  next-fits (GlyphByte d c) b f l = column-fits d c b (f .0) (f .1) l
+  next-fits (DownloadTo from) b f l = if-fits (leb from b) (GlyphWidth (batch from from b) false) (f, f, l)
+  next-fits (GlyphWidth d n) b f l =
+      if-fits (eqb b 5 || eqb b 7) (GlyphByte d n (noColumns b))
+      (f, (l, zero-fits, zero-fits, zero-fits, zero-fits, zero-fits, zero-fits, zero-fits, zero-fits))
+  next-fits (GlyphByte d n c) b f l = column-fits d n c b (f .0) (f .1) l
   next-fits (Low w) b f l = fitting (f, l)
   next-fits (High w low) b f l = let m = f .1 in word-fits w (word16 low b) (f .0) (omega arith)
   next-fits (ImageKind width height) b f l = if-fits (eqb b 1) (ImageData width height 0 0) (f .0, f .1, omega arith, omega arith)
@@ -181,9 +184,9 @@ module _ (g : Module) where
   begins-fits no-byte = tt
   begins-fits (one-more {p = p} b s l e) = rw e at (next-fits p b (begins-fits s) l) .next
   begins-fits (one-stored {p = p} b column row s l e) = rw e at (next-fits p b (begins-fits s) l) .next
-  begins-fits (one-glyph {p = p} b d c s l e m) =
+  begins-fits (one-glyph {p = p} b d n c s l e m) =
       let f : BatchFits d = rw e at (next-fits p b (begins-fits s) l) .next in
-      let n = ltb-true (d .code) (d .last) m in
+      let on = ltb-true (d .code) (d .last) m in
       let last = f .2 in
       (f .0, omega arith, f .2)
   begins-fits (any-note d dropped s) = begins-fits s

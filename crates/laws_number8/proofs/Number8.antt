@@ -368,9 +368,9 @@ module _ (g : Module) (s : State) (ds : List ℕ) where
         (λ e. n (eqb-true (widthAt ds k) 5 (both-of (eqb (widthAt ds k) 5) _ e .0)))
     none f (column-unused k t n c) = in-either (eqb (widthAt ds k) 7) _ (taken-width ds ok k t) (λ e. n (eqb-true (widthAt ds k) 7 e))
         (λ e. used ds k c (both-of (eqb (widthAt ds k) 5) _ e .1))
-    none f (define-missing d c h i m u) = true≢false (sym (missing-full ds d (free-note s ds note h i) c m .1) ∙ u)
-    none f (note-missing d c h i m u) = true≢false (sym (missing-full ds d (free-note s ds note h i) c m .0) ∙ u)
-    none f (note-wrong d h i n u) = true≢false (sym u ∙ none-missing ds d (free-note s ds note h i) n)
+    none f (define-missing d n c h i m u) = true≢false (sym (missing-full ds d n (free-note s ds note h i) c m .1) ∙ u)
+    none f (note-missing d c h i m) = true≢false (sym (missing-full ds d false (free-note s ds note h i) c m .0))
+    none f (note-wrong d h i n) = true≢false (none-missing ds d true (free-note s ds note h i) n)
 
 -- number 8 is given exactly if a clause of its row holds, for every record whose half-read numbers fit their types
 pub number-8 : (g : Module) (s : State) (ds : List ℕ) → Fits (s .half) → (accepted g s ds ≡ false) ↔ Breaks g s ds

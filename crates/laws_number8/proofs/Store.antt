@@ -89,22 +89,22 @@ module _ (g : Module) (s : State) (ds : List ℕ) where
       (λ n q. fails-below (placeOk ds) 16 (place-out (eqb-true (length ds) storeLength n)) q)
 
   -- the note of a define
-  note-out : (d : Batch) → s .hold ≡ Free → Defines (s .half) d → noteOk ds d ≡ false → Breaks g s ds
+  note-out : (d : Batch) (n : Bool) → s .hold ≡ Free → Defines (s .half) d n → noteOk ds d n ≡ false → Breaks g s ds
   unfolding noteOk allStored
-  note-out d h i e = go (allStored ds (d .first) (d .code)) refl (d .dropped) refl e where
-    go : (t : Bool) → allStored ds (d .first) (d .code) ≡ t → (n : Bool) → d .dropped ≡ n
+  note-out d n h i e = go (allStored ds (d .first) (d .code)) refl n i e where
+    go : (t : Bool) → allStored ds (d .first) (d .code) ≡ t → (n : Bool) → Defines (s .half) d n
         → cond t (not n) (n && isFull ds) ≡ false → Breaks g s ds
-    go true q true r e = note-wrong d h i (λ c m. all q c m) r where
+    go true q true i e = note-wrong d h i (λ c m. all q c m) where
       all : allStored ds (d .first) (d .code) ≡ true → (c : ℕ) → ¬ Missing ds d c
       all a c m =
           let there : d .first + (c - d .first) ≡ c = omega (arith, m .0) in
           true≢false (sym (rw there at (below-at (λ k. isStored ds (d .first + k)) (d .code - d .first) a (c - d .first) (omega (arith, m .0, m .1)))) ∙ m .2)
-    go true q false r e = absurd (true≢false e)
-    go false q n r e =
+    go true q false i e = absurd (true≢false e)
+    go false q n i e =
         fails-below (λ k. isStored ds (d .first + k)) (d .code - d .first)
         (λ k l u.
         let m : Missing ds d (d .first + k) = (omega arith, omega arith, u) in
-        fails n (λ z. note-missing d (d .first + k) h i m (r ∙ z)) (λ z. define-missing d (d .first + k) h i m z) e) q
+        fails n (λ z. note-missing d (d .first + k) h (rw z at i) m) (λ z. define-missing d n (d .first + k) h i m z) e) q
 
   -- of what is half read
   half-out : (p : Half) → s .hold ≡ Free → s .half ≡ p → halfNoteOk ds p ≡ false → Breaks g s ds
@@ -122,8 +122,8 @@ module _ (g : Module) (s : State) (ds : List ℕ) where
   half-out DownloadA h q e = absurd (true≢false e)
   half-out DownloadFrom h q e = absurd (true≢false e)
   half-out (DownloadTo from) h q e = absurd (true≢false e)
-  half-out (GlyphWidth d) h q e = note-out d h (rw q (at-width d)) e
-  half-out (GlyphByte d c) h q e = note-out d h (rw q (at-column d c)) e
+  half-out (GlyphWidth d n) h q e = note-out d n h (rw q (at-width d n)) e
+  half-out (GlyphByte d n c) h q e = note-out d n h (rw q (at-column d n c)) e
   half-out (Low w) h q e = absurd (true≢false e)
   half-out (High w low) h q e = absurd (true≢false e)
   half-out (ImageKind width height) h q e = absurd (true≢false e)
@@ -171,33 +171,33 @@ used ds k (inl n) e = n (eqb-true (columnAt ds k 5) 0 (both-of (eqb (columnAt ds
 used ds k (inr n) e = n (eqb-true (columnAt ds k 6) 0 (both-of (eqb (columnAt ds k 5) 0) _ e .1))
 
 -- the note of a define that is half read outside a hold
-pub free-note : (s : State) (ds : List ℕ) → defineOk ds (s .hold) (s .half) ≡ true → s .hold ≡ Free → {d : Batch} → Defines (s .half) d
-    → noteOk ds d ≡ true
+pub free-note : (s : State) (ds : List ℕ) → defineOk ds (s .hold) (s .half) ≡ true → s .hold ≡ Free → {d : Batch} {n : Bool}
+    → Defines (s .half) d n → noteOk ds d n ≡ true
 unfolding defineOk halfNoteOk
-free-note s ds e h {d} i = go (s .half) i (rw h at e) where
-  go : (p : Half) → Defines p d → halfNoteOk ds p ≡ true → noteOk ds d ≡ true
-  go p (at-width d) e = e
-  go p (at-column d c) e = e
+free-note s ds e h {d} {n} i = go (s .half) i (rw h at e) where
+  go : (p : Half) → Defines p d n → halfNoteOk ds p ≡ true → noteOk ds d n ≡ true
+  go p (at-width d n) e = e
+  go p (at-column d n c) e = e
 
-module _ (ds : List ℕ) (d : Batch) (note : noteOk ds d ≡ true) where
+module _ (ds : List ℕ) (d : Batch) (n : Bool) (note : noteOk ds d n ≡ true) where
   -- a code is missing: the note says so, and no place is free
-  pub missing-full : (c : ℕ) → Missing ds d c → (d .dropped ≡ true) × (isFull ds ≡ true)
+  pub missing-full : (c : ℕ) → Missing ds d c → (n ≡ true) × (isFull ds ≡ true)
   unfolding noteOk allStored
   missing-full c m = go (allStored ds (d .first) (d .code)) refl note where
     there : d .first + (c - d .first) ≡ c
     there = omega (arith, m .0)
 
-    go : (t : Bool) → allStored ds (d .first) (d .code) ≡ t → cond t (not (d .dropped)) (d .dropped && isFull ds) ≡ true
-        → (d .dropped ≡ true) × (isFull ds ≡ true)
+    go : (t : Bool) → allStored ds (d .first) (d .code) ≡ t → cond t (not n) (n && isFull ds) ≡ true
+        → (n ≡ true) × (isFull ds ≡ true)
     go true q e =
         let h = below-at (λ k. isStored ds (d .first + k)) (d .code - d .first) q (c - d .first) (omega (arith, m .0, m .1)) in
         absurd (true≢false (sym (rw there at h) ∙ m .2))
-    go false q e = both-of (d .dropped) (isFull ds) e
+    go false q e = both-of n (isFull ds) e
 
   -- none is: the note says so
-  pub none-missing : ((c : ℕ) → ¬ Missing ds d c) → d .dropped ≡ false
+  pub none-missing : ((c : ℕ) → ¬ Missing ds d c) → n ≡ false
   unfolding noteOk allStored
-  none-missing n = off (d .dropped) (rw all at note) where
+  none-missing whole = off n (rw all at note) where
     off : (t : Bool) → not t ≡ true → t ≡ false
     off true e = sym e
     off false e = refl
@@ -207,4 +207,4 @@ module _ (ds : List ℕ) (d : Batch) (note : noteOk ds d ≡ true) where
         below-all (λ k. isStored ds (d .first + k)) (d .code - d .first)
         (λ k l.
         by-test (λ t. isStored ds (d .first + k) ≡ t → t ≡ true) (isStored ds (d .first + k)) (λ _ _. refl)
-        (λ _ e. absurd (n (d .first + k) (omega arith, omega arith, e))) refl)
+        (λ _ e. absurd (whole (d .first + k) (omega arith, omega arith, e))) refl)

@@ -2,7 +2,7 @@
 -- order 2 adds to it: `Breaks g s ds`, ds being the downloads.
 -- That the paper's `accepted` fails exactly then is `number-8` in proofs/Number8. Assumes nothing.
 use mathlib.Core.Path.{_≡_}
-use mathlib.Core.Bool.{true, false}
+use mathlib.Core.Bool.{Bool, true, false}
 use mathlib.Core.List.{List}
 use mathlib.Core.Logic.{_≢_, _⊎_}
 use Prim.Native.Nat.{ℕ, _+_, _*_, _-_, _<_, _≤_}
@@ -78,10 +78,10 @@ pub record Taken (ds : List ℕ) (k : ℕ) : Type 0 where
   pub inside : byte < placeLength
   pub some : getD ds (placeLength * k + byte) 0 ≢ 0
 
--- what is half read is a define that has come to these codes
-pub data Defines : Half → Batch → Type 0 where
-  at-width : (d : Batch) → Defines (GlyphWidth d) d
-  at-column : (d : Batch) (c : Columns) → Defines (GlyphByte d c) d
+-- what is half read is a define that has come to these codes, with this note of a drop
+pub data Defines : Half → Batch → Bool → Type 0 where
+  at-width : (d : Batch) (n : Bool) → Defines (GlyphWidth d n) d n
+  at-column : (d : Batch) (n : Bool) (c : Columns) → Defines (GlyphByte d n c) d n
 
 -- "a code read to its last byte is not stored"
 abbrev pub Missing : List ℕ → Batch → ℕ → Type 0
@@ -123,7 +123,8 @@ pub data Breaks (g : Module) (s : State) (ds : List ℕ) : Type 0 where
   -- of our record's form: a download of five columns has no sixth and no seventh
   column-unused : (k : ℕ) → Taken ds k → widthAt ds k ≢ 7 → (columnAt ds k 5 ≢ 0) ⊎ (columnAt ds k 6 ≢ 0) → Breaks g s ds
   -- "outside a hold, a half-read define of which a code read to its last byte is not stored while fewer than 16 are"
-  define-missing : (d : Batch) (c : ℕ) → s .hold ≡ Free → Defines (s .half) d → Missing ds d c → isFull ds ≡ false → Breaks g s ds
+  define-missing : (d : Batch) (n : Bool) (c : ℕ) → s .hold ≡ Free → Defines (s .half) d n → Missing ds d c → isFull ds ≡ false
+      → Breaks g s ds
   -- "or whose note of a drop says other than that such a code is not stored"
-  note-missing : (d : Batch) (c : ℕ) → s .hold ≡ Free → Defines (s .half) d → Missing ds d c → d .dropped ≡ false → Breaks g s ds
-  note-wrong : (d : Batch) → s .hold ≡ Free → Defines (s .half) d → ((c : ℕ) → ¬ Missing ds d c) → d .dropped ≡ true → Breaks g s ds
+  note-missing : (d : Batch) (c : ℕ) → s .hold ≡ Free → Defines (s .half) d false → Missing ds d c → Breaks g s ds
+  note-wrong : (d : Batch) → s .hold ≡ Free → Defines (s .half) d true → ((c : ℕ) → ¬ Missing ds d c) → Breaks g s ds

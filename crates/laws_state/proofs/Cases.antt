@@ -18,7 +18,7 @@ use Rattle.paper.specs.Downloads.{Faces}
 use Rattle.paper.specs.Reading.{readOf}
 use Rattle.paper.specs.Settings.{withHalf, viewOf}
 use Rattle.paper.specs.Bounds.{halfOk}
-use Rattle.paper.specs.Carry.{Meaning, means, askedOf, isHeld, carriedOut, answers, commandOf, imageStrokes, glyphEnds, takeOf, byteMeans}
+use Rattle.paper.specs.Carry.{Meaning, means, askedOf, isHeld, carriedOut, answers, commandOf, imageStrokes, noted, glyphEnds, takeOf, byteMeans}
 use Rattle.laws_bytes.specs.Readings.{commandOk, readingOk}
 use Rattle.laws_bytes.proofs.Readings.{next-ok, reads-ok, glyph-end-facts}
 use Rattle.laws_bytes.proofs.Tests.{both-of}
@@ -65,9 +65,10 @@ module _ (g : Module) (font : Faces) (P : Meaning → Type 0) where
         let f = both-of (ltb column (g .columns)) _ h in
         image next Unfinished column row b (both-of (ltb row (g .rows)) (halfOk g next) (f .1) .1)
     by-reading (ImageEnd column row b) h = image Nothing Carried column row b refl
-    by-reading (GlyphEnd d c) h =
-        let f = glyph-end-facts g d c h in
-        by-cond P (ltb (d .code) (d .last)) (λ l. quiet _ Unfinished (next-ok g d _ (f .0) l)) (λ _. quiet Nothing _ refl)
+    by-reading (GlyphEnd d n c) h =
+        let f = glyph-end-facts g d n c h in
+        by-cond P (ltb (d .code) (d .last)) (λ l. quiet _ Unfinished (next-ok g d n (noted (font .store) (s .hold) d n) (f .0) l))
+        (λ _. quiet Nothing _ refl)
     by-reading Cancels h = quiet Nothing Cancelled refl
     by-reading UnknownCode h = quiet Nothing Unknown refl
 
@@ -88,7 +89,7 @@ module _ (g : Module) (font : Faces) (P : Meaning → Type 0) where
     any-reading (Whole c) = by-command (withHalf s Nothing) c (quiet Nothing) (λ _. done c)
     any-reading (ImageByte column row b next) = image next Unfinished column row b
     any-reading (ImageEnd column row b) = image Nothing Carried column row b
-    any-reading (GlyphEnd d c) =
+    any-reading (GlyphEnd d n c) =
         by-cond P (ltb (d .code) (d .last)) (λ _. quiet _ Unfinished) (λ _. quiet Nothing _)
     any-reading Cancels = quiet Nothing Cancelled
     any-reading UnknownCode = quiet Nothing Unknown

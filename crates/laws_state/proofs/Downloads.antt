@@ -74,19 +74,20 @@ module _ (g : Module) (f : Faces) (s : State) (P : List ℕ → Type 0) (same : 
     (none : isHeld (s .hold) ≡ false → P (allErased (f .store)))
     (one : isHeld (s .hold) ≡ false → (code : ℕ) → P (erased (f .store) code)) where
   by-take : (r : Reading)
-      → ((d : Batch) (c : Columns) → r ≡ GlyphEnd d c → isHeld (s .hold) ≡ false → P (putIn (f .store) (d .code) c))
+      → ((d : Batch) (n : Bool) (c : Columns) → r ≡ GlyphEnd d n c → isHeld (s .hold) ≡ false → P (putIn (f .store) (d .code) c))
       → P (takeStore g f s r)
   unfolding takeStore
   by-take (More p) put = same
   by-take (Whole c) put = by-command-store g f (withHalf s Nothing) P same none one c
   by-take (ImageByte column row b next) put = same
   by-take (ImageEnd column row b) put = same
-  by-take (GlyphEnd d c) put = by-cond P (isHeld (s .hold)) (λ _. same) (put d c refl)
+  by-take (GlyphEnd d n c) put = by-cond P (isHeld (s .hold)) (λ _. same) (put d n c refl)
   by-take Cancels put = same
   by-take UnknownCode put = same
 
   pub by-store : (b : ℕ)
-      → ((d : Batch) (c : Columns) → readOf g (s .half) b ≡ GlyphEnd d c → isHeld (s .hold) ≡ false → P (putIn (f .store) (d .code) c))
+      → ((d : Batch) (n : Bool) (c : Columns) → readOf g (s .half) b ≡ GlyphEnd d n c → isHeld (s .hold) ≡ false
+      → P (putIn (f .store) (d .code) c))
       → P (byteStore g f s b)
   unfolding byteStore
   by-store b = by-take (readOf g (s .half) b)
@@ -96,18 +97,18 @@ pub store-byte-length : (g : Module) (f : Faces) (s : State) (b : ℕ) → lengt
 store-byte-length g f s b =
     let ds = f .store in
     by-store g f s (λ (es : List ℕ). length es ≡ length ds) refl (λ _. none-length ds) (λ _ code. erase-length ds code) b
-    (λ d c _ _. put-length ds (d .code) c)
+    (λ d _ c _ _. put-length ds (d .code) c)
 
 -- while a window is held they stay as they are
 pub held-store : (g : Module) (f : Faces) (s : State) (b : ℕ) → isHeld (s .hold) ≡ true → byteStore g f s b ≡ f .store
 held-store g f s b h =
     by-store g f s (λ (es : List ℕ). es ≡ f .store) refl (λ e. absurd (true≢false (sym h ∙ e)))
-    (λ e code. absurd (true≢false (sym h ∙ e))) b (λ d c _ e. absurd (true≢false (sym h ∙ e)))
+    (λ e code. absurd (true≢false (sym h ∙ e))) b (λ d n c _ e. absurd (true≢false (sym h ∙ e)))
 
 -- a code of a define is one that a download may have
-pub define-code : (g : Module) (d : Batch) → halfOk g (GlyphWidth d) ≡ true → (0x20 ≤ d .code) × (batchOk d ≡ true)
+pub define-code : (g : Module) (d : Batch) (n : Bool) → halfOk g (GlyphWidth d n) ≡ true → (0x20 ≤ d .code) × (batchOk d ≡ true)
 unfolding halfOk batchOk
-define-code g d h =
+define-code g d n h =
     let b = both-of (g .downloads) (batchOk d) h .1 in
     let first = both-of (leb 0x20 (d .first)) _ b in
     let code = both-of (leb (d .first) (d .code)) _ (first .1) in
@@ -121,9 +122,9 @@ pub byte-stored : (g : Module) (f : Faces) (s : State) (b : ℕ) → stateOk g s
 byte-stored g f s b h ok =
     let ds = f .store in
     by-store g f s (λ (es : List ℕ). storeOk es ≡ true) ok (λ _. none-ok ds (store-length ds ok)) (λ _ code. erase-ok ds code ok) b
-    (λ d c e _.
-    let w = glyph-end-facts g d c (rw e at (reads-ok g (s .half) b (parts g s h .half))) in
-    put-ok ds (d .code) c ok (define-code g d (w .0) .0) (w .1))
+    (λ d n c e _.
+    let w = glyph-end-facts g d n c (rw e at (reads-ok g (s .half) b (parts g s h .half))) in
+    put-ok ds (d .code) c ok (define-code g d n (w .0) .0) (w .1))
 
 -- a piece leaves the downloads as many bytes as they were
 pub store-run-length : (g : Module) (font : List ℕ) (f : Feeding) (bs : List ℕ) → length (run g font f bs .store) ≡ length (f .store)

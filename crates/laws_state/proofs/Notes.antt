@@ -21,7 +21,7 @@ noteRead ds (More p) = halfNoteOk ds p
 noteRead ds (Whole c) = true
 noteRead ds (ImageByte column row b next) = halfNoteOk ds next
 noteRead ds (ImageEnd column row b) = true
-noteRead ds (GlyphEnd d c) = noteOk ds d
+noteRead ds (GlyphEnd d n c) = noteOk ds d n
 noteRead ds Cancels = true
 noteRead ds UnknownCode = true
 
@@ -143,8 +143,8 @@ module _ (g : Module) (ds : List ℕ) where
   every-note DownloadA b h = either (eqb b 1) (right refl) (right refl)
   every-note DownloadFrom b h = either (leb 0x20 b) (right refl) (right refl)
   every-note (DownloadTo from) b h = either (leb from b) (right (fresh-note ds from b)) (right refl)
-  every-note (GlyphWidth d) b h = either (eqb b 5 || eqb b 7) (right h) (right refl)
-  every-note (GlyphByte d c) b h = either (ltb (withColumn c b .come) (withColumn c b .width)) (right h) (right h)
+  every-note (GlyphWidth d n) b h = either (eqb b 5 || eqb b 7) (right h) (right refl)
+  every-note (GlyphByte d n c) b h = either (ltb (withColumn c b .come) (withColumn c b .width)) (right h) (right h)
   every-note (Low w) b h = right refl
   every-note (High w low) b h = word-note w (word16 low b)
   every-note (ImageKind width height) b h = either (eqb b 1) (right refl) (right refl)

@@ -1,6 +1,6 @@
 -- Every byte leaves an accepted record accepted: its state, its downloads, and the note of its half-read define. Assumes nothing.
 use mathlib.Core.Path.{_≡_, refl, ap, _∙_}
-use mathlib.Core.Bool.{true, false, true≢false}
+use mathlib.Core.Bool.{Bool, true, false, true≢false}
 use mathlib.Core.List.{List, [], _∷_}
 use Prim.Native.Nat.{ℕ}
 use lib.Dec.{ltb, eqb}
@@ -97,10 +97,10 @@ command-nothing g f s c =
 -- the half-read define has its note right after any reading that has
 module _ (g : Module) (f : Faces) (s : State) (ok : storeOk (f .store) ≡ true) where
   -- with a download that has come whole, stored or dropped
-  glyph-define : (d : Batch) (c : Columns) → batchOk d ≡ true → (isHeld (s .hold) ≡ false → noteOk (f .store) d ≡ true)
-      → defineOk (takeStore g f s (GlyphEnd d c)) (s .hold) (GlyphWidth (nextCode d (noted (f .store) (s .hold) d))) ≡ true
+  glyph-define : (d : Batch) (n : Bool) (c : Columns) → batchOk d ≡ true → (isHeld (s .hold) ≡ false → noteOk (f .store) d n ≡ true)
+      → defineOk (takeStore g f s (GlyphEnd d n c)) (s .hold) (GlyphWidth (nextCode d) (noted (f .store) (s .hold) d n)) ≡ true
   unfolding takeStore halfNoteOk
-  glyph-define d c b n = define-outside _ (s .hold) _ (λ e. rw e (note-kept (f .store) d c ok b (n e)))
+  glyph-define d n c b h = define-outside _ (s .hold) _ (λ e. rw e (note-kept (f .store) d n c ok b (h e)))
 
   take-define : (r : Reading) → readingOk g r ≡ true → (isHeld (s .hold) ≡ false → noteRead (f .store) r ≡ true)
       → defineOk (takeStore g f s r) (takeOf g f s r .state .hold) (takeOf g f s r .state .half) ≡ true
@@ -112,9 +112,10 @@ module _ (g : Module) (f : Faces) (s : State) (ok : storeOk (f .store) ≡ true)
       ∙ define-nothing (commandStore g f (withHalf s Nothing) c) (t .state .hold)
   take-define (ImageByte column row b p) h n = define-outside (f .store) (s .hold) p n
   take-define (ImageEnd column row b) h n = define-nothing (f .store) (s .hold)
-  take-define (GlyphEnd d c) h n =
-      by-cond (λ (t : Meaning). defineOk (takeStore g f s (GlyphEnd d c)) (t .state .hold) (t .state .half) ≡ true) (ltb (d .code) (d .last))
-      (λ _. glyph-define d c (define-code g d (glyph-end-facts g d c h .0) .1) n) (λ _. define-nothing _ (s .hold))
+  take-define (GlyphEnd d m c) h n =
+      by-cond (λ (t : Meaning). defineOk (takeStore g f s (GlyphEnd d m c)) (t .state .hold) (t .state .half) ≡ true)
+      (ltb (d .code) (d .last))
+      (λ _. glyph-define d m c (define-code g d m (glyph-end-facts g d m c h .0) .1) n) (λ _. define-nothing _ (s .hold))
   take-define Cancels h n = define-nothing (f .store) (s .hold)
   take-define UnknownCode h n = define-nothing (f .store) (s .hold)
 

@@ -120,8 +120,8 @@ halfOk g (Rest left) = between 1 5 left
 halfOk g DownloadA = g .downloads
 halfOk g DownloadFrom = g .downloads
 halfOk g (DownloadTo from) = g .downloads && leb 0x20 from
-halfOk g (GlyphWidth d) = g .downloads && batchOk d
-halfOk g (GlyphByte d c) = g .downloads && (batchOk d && columnsOk c)
+halfOk g (GlyphWidth d n) = g .downloads && batchOk d
+halfOk g (GlyphByte d n c) = g .downloads && (batchOk d && columnsOk c)
 halfOk g (Low w) = wordOk g w
 halfOk g (High w low) = wordOk g w
 halfOk g (ImageKind width height) = between 1 (g .columns) width && between 1 (g .rows) height
@@ -174,8 +174,8 @@ allStored ds first code = allBelow (λ k. isStored ds (first + k)) (code - first
 
 -- "a half-read define of which a code read to its last byte is not stored while fewer than 16 are, or whose note of a drop says
 -- other than that such a code is not stored": the codes before the one that it is at are read
-unfoldable pub noteOk : List ℕ → Batch → Bool
-noteOk ds d = cond (allStored ds (d .first) (d .code)) (not (d .dropped)) (d .dropped && isFull ds)
+unfoldable pub noteOk : List ℕ → Batch → Bool → Bool
+noteOk ds d n = cond (allStored ds (d .first) (d .code)) (not n) (n && isFull ds)
 
 -- every half-read command
 unfoldable pub halfNoteOk : List ℕ → Half → Bool
@@ -192,8 +192,8 @@ halfNoteOk ds (Rest left) = true
 halfNoteOk ds DownloadA = true
 halfNoteOk ds DownloadFrom = true
 halfNoteOk ds (DownloadTo from) = true
-halfNoteOk ds (GlyphWidth d) = noteOk ds d
-halfNoteOk ds (GlyphByte d c) = noteOk ds d
+halfNoteOk ds (GlyphWidth d n) = noteOk ds d n
+halfNoteOk ds (GlyphByte d n c) = noteOk ds d n
 halfNoteOk ds (Low w) = true
 halfNoteOk ds (High w low) = true
 halfNoteOk ds (ImageKind width height) = true

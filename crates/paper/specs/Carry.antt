@@ -192,19 +192,19 @@ imageStrokes v y column row b =
     cond (ltb (v .x + column) (v .width) && ltb (v .y + row) (v .height))
     (imageStroke y column row b v ∷ []) []
 
--- the note of a drop when the code that a define is at has come whole; while held nothing is stored, and nothing dropped
-abbrev pub noted : List ℕ → Hold → Batch → Bool
-noted ds h d = d .dropped || (not (isHeld h) && isDropped ds (d .code))
+-- a define's note of a drop, n before the code that it is at came whole; while held nothing is stored, and nothing dropped
+abbrev pub noted : List ℕ → Hold → Batch → Bool → Bool
+noted ds h d n = n || (not (isHeld h) && isDropped ds (d .code))
 
 -- "a define read to its end answers 18 exactly if one of its codes was dropped"; "While held, define .. answered 15"
 abbrev pub defineAnswer : Hold → Bool → Outcome
 defineAnswer h dropped = cond (isHeld h) WindowHeld (cond dropped Dropped Carried)
 
 -- a download's last column has come: its define goes on with the next code, or is read to its end
-unfoldable pub glyphEnds : List ℕ → State → Batch → Meaning
-glyphEnds ds s d =
-    cond (ltb (d .code) (d .last)) (means (withHalf s (GlyphWidth (nextCode d (noted ds (s .hold) d)))) Unfinished [])
-    (means (withHalf s Nothing) (defineAnswer (s .hold) (noted ds (s .hold) d)) [])
+unfoldable pub glyphEnds : List ℕ → State → Batch → Bool → Meaning
+glyphEnds ds s d n =
+    cond (ltb (d .code) (d .last)) (means (withHalf s (GlyphWidth (nextCode d) (noted ds (s .hold) d n))) Unfinished [])
+    (means (withHalf s Nothing) (defineAnswer (s .hold) (noted ds (s .hold) d n)) [])
 
 -- "12 and 13 while reading"; "Each byte finishes at most one [command]."
 unfoldable pub takeOf : Module → Faces → State → Reading → Meaning
@@ -212,7 +212,7 @@ takeOf g f s (More p) = means (withHalf s p) Unfinished []
 takeOf g f s (Whole c) = commandOf g f (withHalf s Nothing) c
 takeOf g f s (ImageByte column row b next) = means (withHalf s next) Unfinished (imageStrokes (viewOf g s) (s .settings .style) column row b)
 takeOf g f s (ImageEnd column row b) = means (withHalf s Nothing) Carried (imageStrokes (viewOf g s) (s .settings .style) column row b)
-takeOf g f s (GlyphEnd d c) = glyphEnds (f .store) s d
+takeOf g f s (GlyphEnd d n c) = glyphEnds (f .store) s d n
 takeOf g f s Cancels = answers (withHalf s Nothing) Cancelled
 takeOf g f s UnknownCode = answers (withHalf s Nothing) Unknown
 
@@ -251,7 +251,7 @@ takeStore g f s (More p) = f .store
 takeStore g f s (Whole c) = commandStore g f (withHalf s Nothing) c
 takeStore g f s (ImageByte column row b next) = f .store
 takeStore g f s (ImageEnd column row b) = f .store
-takeStore g f s (GlyphEnd d c) = cond (isHeld (s .hold)) (f .store) (putIn (f .store) (d .code) c)
+takeStore g f s (GlyphEnd d n c) = cond (isHeld (s .hold)) (f .store) (putIn (f .store) (d .code) c)
 takeStore g f s Cancels = f .store
 takeStore g f s UnknownCode = f .store
 

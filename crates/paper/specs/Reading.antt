@@ -120,12 +120,12 @@ readRest left = cond (leb left 1) (Whole Uncarried) (More (Rest (left - 1)))
 -- ---- a define of downloads: "26h a c1 c2 then, for each code c1 to c2, a width x and x bytes: cancelled at a other than 1, c1 below
 -- 20h, c2 below c1, x other than 5 or 7"
 
-abbrev pub batch : ℕ → ℕ → ℕ → Bool → Batch
-batch first code last dropped = record { first = first; code = code; last = last; dropped = dropped }
+abbrev pub batch : ℕ → ℕ → ℕ → Batch
+batch first code last = record { first = first; code = code; last = last }
 
--- the next code of a define, with its note of a drop
-abbrev pub nextCode : Batch → Bool → Batch
-nextCode d dropped = batch (d .first) (d .code + 1) (d .last) dropped
+-- the next code of a define
+abbrev pub nextCode : Batch → Batch
+nextCode d = batch (d .first) (d .code + 1) (d .last)
 
 -- x columns, of which none has come
 abbrev pub noColumns : ℕ → Columns
@@ -146,9 +146,9 @@ withColumn c b =
       c6 = cond (eqb (c .come) 6) b (c .c6);
     }
 
--- the columns come whole with the last of them
-unfoldable pub readColumn : Batch → Columns → Reading
-readColumn d c = cond (ltb (c .come) (c .width)) (More (GlyphByte d c)) (GlyphEnd d c)
+-- the columns come whole with the last of them; reading hands on the note of a drop n as it is
+unfoldable pub readColumn : Batch → Bool → Columns → Reading
+readColumn d n c = cond (ltb (c .come) (c .width)) (More (GlyphByte d n c)) (GlyphEnd d n c)
 
 -- "In 02h, a outside 1 to 4 or b outside 0 to 1 cancels at that byte. When b is 1 all is read"
 unfoldable pub readWindowB : ℕ → ℕ → Reading
@@ -190,9 +190,9 @@ readOf g (Value key) b = Whole (Set key b)
 readOf g (Rest left) b = readRest left
 readOf g DownloadA b = moreIf (eqb b 1) DownloadFrom
 readOf g DownloadFrom b = moreIf (leb 0x20 b) (DownloadTo b)
-readOf g (DownloadTo from) b = moreIf (leb from b) (GlyphWidth (batch from from b false))
-readOf g (GlyphWidth d) b = moreIf (eqb b 5 || eqb b 7) (GlyphByte d (noColumns b))
-readOf g (GlyphByte d c) b = readColumn d (withColumn c b)
+readOf g (DownloadTo from) b = moreIf (leb from b) (GlyphWidth (batch from from b) false)
+readOf g (GlyphWidth d n) b = moreIf (eqb b 5 || eqb b 7) (GlyphByte d n (noColumns b))
+readOf g (GlyphByte d n c) b = readColumn d n (withColumn c b)
 readOf g (Low w) b = More (High w b)
 readOf g (High w low) b = readWord g w (word16 low b)
 readOf g (ImageKind width height) b = moreIf (eqb b 1) (ImageData width height 0 0)

@@ -146,12 +146,11 @@ pub enum Word {
     },
 }
 
-// The codes of a define: its first, the one that it is at, its last, and whether one of them was dropped.
+// The codes of a define: its first, the one that it is at, its last.
 pub struct Batch {
     pub first: u8,
     pub code: u8,
     pub last: u8,
-    pub dropped: bool,
 }
 
 // A download's columns as they come: how many it has, 5 or 7, how many have come, and their bytes, leftmost first. One that has not
@@ -192,15 +191,20 @@ pub enum Half {
     Rest {
         left: u8,
     },
-    // a define of downloads: its a, its c1, its c2; then the width of the code that it is at, or that code's next column
+    // a define of downloads: its a, its c1, its c2; then the width of the code that it is at, or that code's next column, with the note
+    // whether a code of this define was dropped
     DownloadA,
     DownloadFrom,
     DownloadTo {
         from: u8,
     },
-    GlyphWidth(Batch),
+    GlyphWidth {
+        batch: Batch,
+        dropped: bool,
+    },
     GlyphByte {
         batch: Batch,
+        dropped: bool,
         columns: Columns,
     },
     // a 16-bit parameter, low byte first
@@ -296,9 +300,10 @@ pub enum Reading {
         row: u16,
         byte: u8,
     },
-    // a download's last column has come, of the code that the define is at
+    // a download's last column has come, of the code that the define is at, with the define's note of a drop
     GlyphEnd {
         batch: Batch,
+        dropped: bool,
         columns: Columns,
     },
     // the command is cancelled at this byte
