@@ -103,8 +103,9 @@ pub fn half_ok(g: Module, half: Half) -> bool
         Half::DownloadA => g.downloads,
         Half::DownloadFrom => g.downloads,
         Half::DownloadTo { from } => g.downloads & (0x20 <= from),
-        Half::GlyphWidth(batch) => g.downloads & batch_ok(batch),
-        Half::GlyphByte { batch, columns } => g.downloads & (batch_ok(batch) & columns_ok(columns)),
+        Half::GlyphWidth { batch, .. } => g.downloads & batch_ok(batch),
+        Half::GlyphByte { batch, columns, .. } => g.downloads
+            & (batch_ok(batch) & columns_ok(columns)),
         Half::Low(word) => word_ok(g, word),
         Half::High { word, .. } => word_ok(g, word),
         Half::ImageKind { width, height } => is_size(g.columns, width) & is_size(g.rows, height),

@@ -106,14 +106,14 @@ fn all_stored(ds: &[u8], first: u8, code: u8) -> bool
 }
 
 // The note says whether a code that was read is not stored, and one is not only where no place is free.
-fn note_ok(ds: &[u8], batch: Batch) -> bool
-    ensures { λ r. ⌜ r ≡ noteOk (now (ds .entry)) batch ⌝ }
+fn note_ok(ds: &[u8], batch: Batch, dropped: bool) -> bool
+    ensures { λ r. ⌜ r ≡ noteOk (now (ds .entry)) batch dropped ⌝ }
 {
     if all_stored(ds, batch.first, batch.code) {
-        return !batch.dropped;
+        return !dropped;
     }
     let full = !downloads::is_stored(ds, 0);
-    batch.dropped & full
+    dropped & full
 }
 
 // What is half read: a define's note is asked for, anything else notes nothing.
@@ -121,8 +121,8 @@ fn half_note_ok(ds: &[u8], half: Half) -> bool
     ensures { λ r. ⌜ r ≡ halfNoteOk (now (ds .entry)) half ⌝ }
 {
     match half {
-        Half::GlyphWidth(batch) => note_ok(ds, batch),
-        Half::GlyphByte { batch, .. } => note_ok(ds, batch),
+        Half::GlyphWidth { batch, dropped } => note_ok(ds, batch, dropped),
+        Half::GlyphByte { batch, dropped, .. } => note_ok(ds, batch, dropped),
         _ => true,
     }
 }

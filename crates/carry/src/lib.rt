@@ -107,7 +107,11 @@ pub fn take(g: Module, mem: &mut [u8], store: &mut [u8], font: &[u8], s: State, 
                 Outcome::Carried,
             )
         }
-        Reading::GlyphEnd { batch, columns } => carry_store::glyph_end(store, s, batch, columns),
+        Reading::GlyphEnd {
+            batch,
+            dropped,
+            columns,
+        } => carry_store::glyph_end(store, s, batch, dropped, columns),
         Reading::Cancels => {
             let t = State {
                 half: Half::Nothing,

@@ -1,6 +1,6 @@
 -- What an erase that is not carried out owes, and where a define goes when a download of it has come whole. Assumes nothing.
 use mathlib.Core.Path.{_≡_}
-use mathlib.Core.Bool.{false}
+use mathlib.Core.Bool.{Bool, false}
 use mathlib.Core.List.{List, []}
 use Prim.Native.Nat.{ℕ, _<_, _≤_}
 use borrow.Author.Tests.{lt-ltb, le-ltb}
@@ -26,13 +26,14 @@ pub stores-answer : {g : Module} {f : Faces} {s : State} {c : Command} {r : Done
     → r ≡ done s o → commandOf g f s c ≡ answers s o → isCarried o ≡ false → StoresCommand g f s c r (f .store)
 stores-answer {g} {f} {s} {c} e m h = record { says = says e m; store = store-answered g f s c m h }
 
-module _ (ds : List ℕ) (s : State) (d : Batch) where
+module _ (ds : List ℕ) (s : State) (d : Batch) (n : Bool) where
   -- a define that has a code left goes on with it
-  pub goes-on : d .code < d .last → glyphEnds ds s d ≡ means (withHalf s (GlyphWidth (nextCode d (noted ds (s .hold) d)))) Unfinished []
+  pub goes-on : d .code < d .last
+      → glyphEnds ds s d n ≡ means (withHalf s (GlyphWidth (nextCode d) (noted ds (s .hold) d n))) Unfinished []
   unfolding glyphEnds
   goes-on l = rw (lt-ltb (d .code) (d .last) l)
 
   -- and is read to its end with its last
-  pub is-read : d .last ≤ d .code → glyphEnds ds s d ≡ means (withHalf s Nothing) (defineAnswer (s .hold) (noted ds (s .hold) d)) []
+  pub is-read : d .last ≤ d .code → glyphEnds ds s d n ≡ means (withHalf s Nothing) (defineAnswer (s .hold) (noted ds (s .hold) d n)) []
   unfolding glyphEnds
   is-read l = rw (le-ltb (d .code) (d .last) l)

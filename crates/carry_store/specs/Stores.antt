@@ -5,7 +5,6 @@ use mathlib.Core.Bool.{Bool, cond, not, _&&_, _||_}
 use mathlib.Core.List.{List}
 use Prim.Native.Nat.{ℕ}
 use Rattle.paper.specs.declared.Module.{Module}
-use Rattle.paper.specs.declared.Batch.{Batch}
 use Rattle.paper.specs.declared.Columns.{Columns}
 use Rattle.paper.specs.declared.Outcome.{Outcome}
 use Rattle.paper.specs.declared.Outcome.the-variants.{Carried, WindowHeld, Dropped}
@@ -28,11 +27,11 @@ pub record StoresReading (g : Module) (f : Faces) (s : State) (q : Reading) (r :
   pub store : ds ≡ takeStore g f s q
 
 -- the paper's `noted` and `defineAnswer`, and the downloads after a download has come whole: `held` for the hold
-abbrev pub notedIf : Bool → List ℕ → Batch → Bool
-notedIf held ds d = d .dropped || (not held && isDropped ds (d .code))
+abbrev pub notedIf : Bool → List ℕ → ℕ → Bool → Bool
+notedIf held ds code n = n || (not held && isDropped ds code)
 
 abbrev pub answerIf : Bool → Bool → Outcome
 answerIf held dropped = cond held WindowHeld (cond dropped Dropped Carried)
 
-abbrev pub storedIf : Bool → List ℕ → Batch → Columns → List ℕ
-storedIf held ds d c = cond held ds (putIn ds (d .code) c)
+abbrev pub storedIf : Bool → List ℕ → ℕ → Columns → List ℕ
+storedIf held ds code c = cond held ds (putIn ds code c)

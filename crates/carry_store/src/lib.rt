@@ -18,15 +18,15 @@ ghost use Rattle.paper.specs.Downloads.{faces};
 ghost use Rattle.paper.specs.Carry.{isHeld};
 ghost use Rattle.carry_store.specs.Stores.{StoresCommand, StoresReading, notedIf, answerIf, storedIf};
 
-// Stores a download that has come whole, and gives its define's note of a drop. While held nothing is stored, and nothing dropped.
-fn store_one(store: &mut [u8], held: bool, batch: Batch, columns: Columns) -> bool
-    ensures { λ r. ⌜ (r ≡ notedIf held (now (store .entry)) batch) × (now (store .exit) ≡ storedIf held (now (store .entry)) batch columns) ⌝ }
+// Stores a download that has come whole, and gives its define's note of a drop, which was `noted` before. While held nothing is
+// stored, and nothing dropped.
+fn store_one(store: &mut [u8], held: bool, code: u8, noted: bool, columns: Columns) -> bool
+    ensures { λ r. ⌜ (r ≡ notedIf held (now (store .entry)) code noted)
+        × (now (store .exit) ≡ storedIf held (now (store .entry)) code columns) ⌝ }
 {
-    let noted = batch.dropped;
     if held {
         return noted;
     }
-    let code = batch.code;
     let dropped = downloads::is_dropped(store, code);
     downloads::put(store, code, columns);
     noted | dropped
@@ -45,22 +45,25 @@ fn define_answer(held: bool, dropped: bool) -> Outcome
     Outcome::Carried
 }
 
-// A download's last column has come: it is stored, and its define goes on with the next code or is read to its end.
-pub fn glyph_end(store: &mut [u8], s: State, batch: Batch, columns: Columns) -> Done
+// A download's last column has come: it is stored, and its define, with `noted` for its note of a drop so far, goes on with the next
+// code or is read to its end.
+pub fn glyph_end(store: &mut [u8], s: State, batch: Batch, noted: bool, columns: Columns) -> Done
     ensures { λ r. ⌜ ((g : Module) (font : List ℕ) →
-        StoresReading g (faces font (now (store .entry))) s (Reading.GlyphEnd batch columns) r (now (store .exit))) ⌝ }
+        StoresReading g (faces font (now (store .entry))) s (Reading.GlyphEnd batch noted columns) r (now (store .exit))) ⌝ }
 {
     let h = s.hold;
     let held = state::is_held(h);
-    let dropped = store_one(store, held, batch, columns);
     let code = batch.code;
+    let dropped = store_one(store, held, code, noted, columns);
     if code < batch.last {
         let next = Batch {
             code: code + 1,
-            dropped,
             ..batch
         };
-        let half = Half::GlyphWidth(next);
+        let half = Half::GlyphWidth {
+            batch: next,
+            dropped,
+        };
         return carry_state::ends(State { half, ..s }, Outcome::Unfinished);
     }
     let half = Half::Nothing;

@@ -27,8 +27,8 @@ come-below c h =
     let before = ltb-true (c .come) (c .width) (and-eq-true-iff (ltb (c .come) (c .width)) (restBlank c) .0 (f .1) .0) in
     omega (arith, few, before)
 
-pub has-place : (g : Module) (p : Half) (d : Batch) (c : Columns) → p ≡ GlyphByte d c → halfOk g p ≡ true → c .come < 7
+pub has-place : (g : Module) (p : Half) (d : Batch) (n : Bool) (c : Columns) → p ≡ GlyphByte d n c → halfOk g p ≡ true → c .come < 7
 unfolding halfOk
-has-place g p d c e h =
+has-place g p d n c e h =
     let whole = and-eq-true-iff (g .downloads) (batchOk d && columnsOk c) .0 (ap (halfOk g) (sym e) ∙ h) in
     come-below c (and-eq-true-iff (batchOk d) (columnsOk c) .0 (whole .1) .1)

@@ -71,13 +71,21 @@ fn with_column(c: Columns, b: u8) -> Columns
 }
 
 // A download's column has come: the next one is awaited, or it was the last.
-fn read_column(batch: Batch, columns: Columns) -> Reading
-    ensures { λ r. ⌜ r ≡ readColumn batch columns ⌝ }
+fn read_column(batch: Batch, dropped: bool, columns: Columns) -> Reading
+    ensures { λ r. ⌜ r ≡ readColumn batch dropped columns ⌝ }
 {
     if columns.come < columns.width {
-        return Reading::More(Half::GlyphByte { batch, columns });
+        return Reading::More(Half::GlyphByte {
+            batch,
+            dropped,
+            columns,
+        });
     }
-    Reading::GlyphEnd { batch, columns }
+    Reading::GlyphEnd {
+        batch,
+        dropped,
+        columns,
+    }
 }
 
 // Whether window a is cancelled or defined.
@@ -189,21 +197,28 @@ pub fn read(g: Module, half: Half, b: u8) -> Reading
         Half::DownloadFrom => reading_codes::more_if(0x20 <= b, Half::DownloadTo { from: b }),
         Half::DownloadTo { from } => reading_codes::more_if(
             from <= b,
-            Half::GlyphWidth(Batch {
-                first: from,
-                code: from,
-                last: b,
+            Half::GlyphWidth {
+                batch: Batch {
+                    first: from,
+                    code: from,
+                    last: b,
+                },
                 dropped: false,
-            }),
+            },
         ),
-        Half::GlyphWidth(batch) => reading_codes::more_if(
+        Half::GlyphWidth { batch, dropped } => reading_codes::more_if(
             (b == 5) | (b == 7),
             Half::GlyphByte {
                 batch,
+                dropped,
                 columns: no_columns(b),
             },
         ),
-        Half::GlyphByte { batch, columns } => read_column(batch, with_column(columns, b)),
+        Half::GlyphByte {
+            batch,
+            dropped,
+            columns,
+        } => read_column(batch, dropped, with_column(columns, b)),
         Half::Low(word) => Reading::More(Half::High { word, low: b }),
         Half::High { word, low } => read_word(g, word, numbers::word16(low, b)),
         Half::ImageKind { width, height } => reading_codes::more_if(

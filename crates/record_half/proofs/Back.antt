@@ -2,16 +2,13 @@
 use Prim.Native.Nat.{ℕ}
 use mathlib.Core.Path.{_≡_, refl, ap}
 use mathlib.Core.Bool.{Bool, true, false}
-use lib.Dec.{eqb}
 use Rattle.paper.specs.declared.Key.{Key}
 use Rattle.paper.specs.declared.Key.the-variants.{Charset, Codes, Caret, Brightness, Reverse, Speed, Mixing, Width, Write, Switch}
 use Rattle.paper.specs.declared.Word.{Word}
 use Rattle.paper.specs.declared.Word.the-variants.{CursorX, CursorY, WindowLeft, WindowTop, WindowWidth, WindowHeight, ImageWidth, ImageHeight}
-use Rattle.paper.specs.declared.Batch.{Batch}
 use Rattle.paper.specs.declared.Half.{Half}
 use Rattle.paper.specs.declared.Half.the-variants.{Nothing, Escape, Unit, Group, Actions, Images, Characters, Windows, Value, Rest, DownloadA, DownloadFrom, DownloadTo, GlyphWidth, GlyphByte, Low, High, ImageKind, ImageData, EnlargeX, EnlargeY, SelectA, WindowA, WindowB, EraseA, EraseCode}
-use Rattle.paper.specs.Reading.{batch}
-use Rattle.record_half.specs.Slots.{keyNumber, keyOf, wordSlots, wordOf, noteNumber, batchSlots, batchOf, halfSlots, halfOf}
+use Rattle.record_half.specs.Slots.{keyNumber, keyOf, wordSlots, wordOf, noteNumber, noteOf, batchSlots, halfSlots, halfOf}
 
 key-back : (k : Key) → keyOf (keyNumber k) ≡ k
 unfolding keyOf keyNumber
@@ -49,14 +46,11 @@ high-back (WindowHeight a left top width) low = refl
 high-back ImageWidth low = refl
 high-back (ImageHeight width) low = refl
 
--- the codes of a define, with the note of a drop
-note-back : (dropped : Bool) → eqb (noteNumber dropped) 1 ≡ dropped
+-- a define's note of a drop
+note-back : (dropped : Bool) → noteOf (noteNumber dropped) ≡ dropped
 unfolding noteNumber
 note-back true = refl
 note-back false = refl
-
-batch-back : (t : Batch) → batchOf (t .first) (t .code) (t .last) (noteNumber (t .dropped)) ≡ t
-batch-back t = ap (batch (t .first) (t .code) (t .last)) (note-back (t .dropped))
 
 pub half-back : (h : Half) → halfOf (halfSlots h) ≡ h
 unfolding halfOf halfSlots batchSlots
@@ -73,8 +67,8 @@ half-back (Rest left) = refl
 half-back DownloadA = refl
 half-back DownloadFrom = refl
 half-back (DownloadTo from) = refl
-half-back (GlyphWidth t) = ap GlyphWidth (batch-back t)
-half-back (GlyphByte t columns) = ap (λ (t : Batch). GlyphByte t columns) (batch-back t)
+half-back (GlyphWidth t dropped) = ap (GlyphWidth t) (note-back dropped)
+half-back (GlyphByte t dropped columns) = ap (λ (n : Bool). GlyphByte t n columns) (note-back dropped)
 half-back (Low word) = low-back word
 half-back (High word low) = high-back word low
 half-back (ImageKind width height) = refl

@@ -80,12 +80,12 @@ noteNumber true = 1
 noteNumber false = 0
 
 -- case n, with its first code in a, the one that it is at in b, its last in c, the note in d, and the columns
-unfoldable pub batchSlots : ℕ → Batch → Columns → Slots
-batchSlots n t columns = slots n (t .first) (t .code) (t .last) (noteNumber (t .dropped)) 0 0 0 0 columns
+unfoldable pub batchSlots : ℕ → Batch → Bool → Columns → Slots
+batchSlots n t dropped columns = slots n (t .first) (t .code) (t .last) (noteNumber dropped) 0 0 0 0 columns
 
--- a note other than 1 is taken for none, whose own number is another
-abbrev pub batchOf : ℕ → ℕ → ℕ → ℕ → Batch
-batchOf a b c d = batch a b c (eqb d 1)
+-- a byte other than 1 is taken for no note, whose own number is another
+abbrev pub noteOf : ℕ → Bool
+noteOf n = eqb n 1
 
 -- ---- what is half read
 
@@ -103,8 +103,8 @@ halfSlots (Rest left) = bytes 9 left 0 0
 halfSlots DownloadA = bare 10
 halfSlots DownloadFrom = bare 11
 halfSlots (DownloadTo from) = bytes 12 from 0 0
-halfSlots (GlyphWidth t) = batchSlots 13 t (noColumns 0)
-halfSlots (GlyphByte t columns) = batchSlots 14 t columns
+halfSlots (GlyphWidth t dropped) = batchSlots 13 t dropped (noColumns 0)
+halfSlots (GlyphByte t dropped columns) = batchSlots 14 t dropped columns
 halfSlots (Low word) = wordSlots 15 0 word
 halfSlots (High word low) = wordSlots 16 low word
 halfSlots (ImageKind width height) = words 17 0 0 0 width height 0 0
@@ -132,8 +132,8 @@ halfOf t =
     (cond (eqb (t .case) 10) DownloadA
     (cond (eqb (t .case) 11) DownloadFrom
     (cond (eqb (t .case) 12) (DownloadTo (t .a))
-    (cond (eqb (t .case) 13) (GlyphWidth (batchOf (t .a) (t .b) (t .c) (t .d)))
-    (cond (eqb (t .case) 14) (GlyphByte (batchOf (t .a) (t .b) (t .c) (t .d)) (t .columns))
+    (cond (eqb (t .case) 13) (GlyphWidth (batch (t .a) (t .b) (t .c)) (noteOf (t .d)))
+    (cond (eqb (t .case) 14) (GlyphByte (batch (t .a) (t .b) (t .c)) (noteOf (t .d)) (t .columns))
     (cond (eqb (t .case) 15) (Low (wordOf (t .a) (t .b) (t .p) (t .q) (t .r)))
     (cond (eqb (t .case) 16) (High (wordOf (t .a) (t .b) (t .p) (t .q) (t .r)) (t .c))
     (cond (eqb (t .case) 17) (ImageKind (t .p) (t .q))

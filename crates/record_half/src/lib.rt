@@ -3,7 +3,7 @@
 // It uses the paper alone; docs/RECORD.md has the numbers.
 ghost use mathlib.Core.Path.{_≡_};
 ghost use Rattle.paper.specs.Reading.{noColumns};
-ghost use Rattle.record_half.specs.Slots.{words, bytes, keyNumber, keyOf, wordSlots, wordOf, noteNumber, batchSlots, batchOf, halfSlots, halfOf};
+ghost use Rattle.record_half.specs.Slots.{words, bytes, keyNumber, keyOf, wordSlots, wordOf, noteNumber, batchSlots, halfSlots, halfOf};
 use paper::Batch;
 use paper::Columns;
 use paper::Half;
@@ -162,10 +162,9 @@ fn note_number(dropped: bool) -> u8
 }
 
 // A case of a define: its first code in a, the one that it is at in b, its last in c, the note of a drop in d, and the columns.
-fn batch_slots(case: u8, batch: Batch, columns: Columns) -> Slots
-    ensures { λ t. ⌜ t ≡ batchSlots case batch columns ⌝ }
+fn batch_slots(case: u8, batch: Batch, dropped: bool, columns: Columns) -> Slots
+    ensures { λ t. ⌜ t ≡ batchSlots case batch dropped columns ⌝ }
 {
-    let dropped = batch.dropped;
     Slots {
         case,
         a: batch.first,
@@ -177,18 +176,6 @@ fn batch_slots(case: u8, batch: Batch, columns: Columns) -> Slots
         r: 0,
         s: 0,
         columns,
-    }
-}
-
-// The codes of a define that slots say; a note other than 1 is taken for none, whose number is another.
-fn batch_of(a: u8, b: u8, c: u8, d: u8) -> Batch
-    ensures { λ r. ⌜ r ≡ batchOf a b c d ⌝ }
-{
-    Batch {
-        first: a,
-        code: b,
-        last: c,
-        dropped: d == 1,
     }
 }
 
@@ -212,8 +199,12 @@ pub fn half_slots(half: Half) -> Slots
         Half::DownloadA => narrow(10, 0, 0, 0),
         Half::DownloadFrom => narrow(11, 0, 0, 0),
         Half::DownloadTo { from } => narrow(12, from, 0, 0),
-        Half::GlyphWidth(batch) => batch_slots(13, batch, no_columns()),
-        Half::GlyphByte { batch, columns } => batch_slots(14, batch, columns),
+        Half::GlyphWidth { batch, dropped } => batch_slots(13, batch, dropped, no_columns()),
+        Half::GlyphByte {
+            batch,
+            dropped,
+            columns,
+        } => batch_slots(14, batch, dropped, columns),
         Half::Low(word) => word_slots(15, 0, word),
         Half::High { word, low } => word_slots(16, low, word),
         Half::ImageKind { width, height } => wide(17, 0, 0, 0, width, height, 0, 0),
@@ -247,6 +238,13 @@ pub fn half_of(t: Slots) -> Half
     let r = t.r;
     let s = t.s;
     let columns = t.columns;
+    // a define's codes, and its note of a drop: a byte other than 1 is taken for none, whose number is another
+    let batch = Batch {
+        first: a,
+        code: b,
+        last: c,
+    };
+    let dropped = d == 1;
     match case {
         1 => Half::Escape,
         2 => Half::Unit,
@@ -260,9 +258,10 @@ pub fn half_of(t: Slots) -> Half
         10 => Half::DownloadA,
         11 => Half::DownloadFrom,
         12 => Half::DownloadTo { from: a },
-        13 => Half::GlyphWidth(batch_of(a, b, c, d)),
+        13 => Half::GlyphWidth { batch, dropped },
         14 => Half::GlyphByte {
-            batch: batch_of(a, b, c, d),
+            batch,
+            dropped,
             columns,
         },
         15 => Half::Low(word_of(a, b, p, q, r)),

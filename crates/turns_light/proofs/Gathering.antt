@@ -53,7 +53,7 @@ half-aside g font s h (More p) = refl
 half-aside g font s h (Whole c) = refl
 half-aside g font s h (ImageByte column row b p) = refl
 half-aside g font s h (ImageEnd column row b) = refl
-half-aside g font s h (GlyphEnd d c) = refl
+half-aside g font s h (GlyphEnd d n c) = refl
 half-aside g font s h Cancels = refl
 half-aside g font s h UnknownCode = refl
 
@@ -64,7 +64,7 @@ store-aside g font s h (More p) = refl
 store-aside g font s h (Whole c) = refl
 store-aside g font s h (ImageByte column row b p) = refl
 store-aside g font s h (ImageEnd column row b) = refl
-store-aside g font s h (GlyphEnd d c) = refl
+store-aside g font s h (GlyphEnd d n c) = refl
 store-aside g font s h Cancels = refl
 store-aside g font s h UnknownCode = refl
 

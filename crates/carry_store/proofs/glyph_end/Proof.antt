@@ -21,9 +21,6 @@ is-held-requires c κs = search needs
 store-one-requires : tie.Need-store-one-requires
 store-one-requires c κs = search needs
 
-add-t16 : tie.Need-add-t16
-add-t16 c = search needs
-
 ends-requires : tie.Need-ends-requires
 ends-requires c κs = search needs
 
@@ -38,13 +35,13 @@ returns c g font =
     let a = held .before .before .args in
     let ds = now (a .store) in
     let note = storing .store-one .ensures .0
-    ∙ ap (λ (t : Bool). notedIf t ds (a .batch)) (held .is-held .ensures) in
+    ∙ ap (λ (t : Bool). notedIf t ds (a .batch .code) (a .noted)) (held .is-held .ensures) in
     record {
       says = says
-          (ends-at (c .ends .ensures) (ap (λ (t : Bool). withHalf (a .s) (GlyphWidth (nextCode (a .batch) t))) note))
-          (goes-on ds (a .s) (a .batch) (c .before .before .before .before .before .if1 .taken));
+          (ends-at (c .ends .ensures) (ap (λ (t : Bool). withHalf (a .s) (GlyphWidth (nextCode (a .batch)) t)) note))
+          (goes-on ds (a .s) (a .batch) (a .noted) (c .before .before .before .before .before .if1 .taken));
       store = storing .store-one .ensures .1
-          ∙ ap (λ (t : Bool). storedIf t ds (a .batch) (a .columns)) (held .is-held .ensures);
+          ∙ ap (λ (t : Bool). storedIf t ds (a .batch .code) (a .columns)) (held .is-held .ensures);
     }
 
 define-answer-requires : tie.Need-define-answer-requires
@@ -65,14 +62,14 @@ returns-2 c g font =
     let a = held .before .before .args in
     let ds = now (a .store) in
     let note = storing .store-one .ensures .0
-    ∙ ap (λ (t : Bool). notedIf t ds (a .batch)) (held .is-held .ensures) in
+    ∙ ap (λ (t : Bool). notedIf t ds (a .batch .code) (a .noted)) (held .is-held .ensures) in
     let answer = answering .define-answer .ensures
     ∙ ap₂ answerIf (held .is-held .ensures) note in
     record {
       says = says (c .ends2 .ensures ∙ ap (λ (o : Outcome). done (withHalf (a .s) Nothing) o) answer)
-          (is-read ds (a .s) (a .batch) (answering .before .if1 .left));
+          (is-read ds (a .s) (a .batch) (a .noted) (answering .before .if1 .left));
       store = storing .store-one .ensures .1
-          ∙ ap (λ (t : Bool). storedIf t ds (a .batch) (a .columns)) (held .is-held .ensures);
+          ∙ ap (λ (t : Bool). storedIf t ds (a .batch .code) (a .columns)) (held .is-held .ensures);
     }
 
 pub glyph-end-spec : {M : Type 1} → statement M
@@ -81,7 +78,7 @@ glyph-end-spec =
     (tie.spec
     is-held-requires
     store-one-requires
-    add-t16
+    (λ c. search needs)
     ends-requires
     same-length
     returns

@@ -7,7 +7,7 @@ use Rattle.carry_store.proofs.store_one.Tie as tie
 
 returns : tie.Need-returns
 returns c =
-    (rw (c .if1 .taken) (sym (or-false (c .before .before .args .batch .dropped))), rw (c .if1 .taken) refl)
+    (rw (c .if1 .taken) (sym (or-false (c .before .before .args .noted))), rw (c .if1 .taken) refl)
 
 is-dropped-requires : tie.Need-is-dropped-requires
 is-dropped-requires c κs = search needs

@@ -5,7 +5,7 @@ use Rattle.reading.proofs.read.Statement.{statement}
 use Rattle.reading.proofs.read.Tie as tie
 
 with-column-requires : tie.Need-with-column-requires
-with-column-requires c κs = has-place _ _ _ _ (c .before .half5 .given .1) (c .before .before .before .pre)
+with-column-requires c κs = has-place _ _ _ _ _ (c .before .half5 .given .1) (c .before .before .before .pre)
 
 pub read-spec : {M : Type 1} → statement M
 unfolding readOf

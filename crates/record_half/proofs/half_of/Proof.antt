@@ -1,23 +1,14 @@
 -- `half_of` meets its contract: an arm for each number, and one for the rest. Assumes nothing.
-use mathlib.Core.Path.{_≡_, ap}
 use borrow.Author.Tests.{ne-eqb}
-use Rattle.paper.specs.declared.Batch.{Batch}
-use Rattle.paper.specs.declared.Columns.{Columns}
-use Rattle.paper.specs.declared.Half.the-variants.{GlyphWidth, GlyphByte}
 use Rattle.record_half.specs.Slots.{halfOf}
 use Rattle.record_half.proofs.half_of.Statement.{statement}
 use Rattle.record_half.proofs.half_of.Tie as tie
-
-of-batch : {t u : Batch} {c : Columns} → t ≡ u → GlyphByte t c ≡ GlyphByte u c
-of-batch {t} {u} {c} e = ap (λ (t : Batch). GlyphByte t c) e
 
 pub half-of-spec : {M : Type 1} → statement M
 unfolding halfOf
 half-of-spec =
     tie.close
     (tie.spec
-    (λ c κs. tt)
-    (λ c κs. tt)
     (λ c κs. tt)
     (λ c κs. tt)
     (λ c κs. tt)
@@ -34,8 +25,8 @@ half-of-spec =
     (λ c. rw (c .match .keys10))
     (λ c. rw (c .match .keys11))
     (λ c. rw (c .match .keys12))
-    (λ c. rw (c .before .match .keys13) (ap GlyphWidth (c .batch-of .ensures)))
-    (λ c. rw (c .before .match .keys14) (of-batch (c .batch-of2 .ensures)))
+    (λ c. rw (c .match .keys13))
+    (λ c. rw (c .match .keys14))
     (λ c. rw (c .before .match .keys15, ← c .word-of .ensures))
     (λ c. rw (c .before .match .keys16, ← c .word-of2 .ensures))
     (λ c. rw (c .match .keys17))
