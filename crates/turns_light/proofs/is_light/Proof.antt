@@ -1,7 +1,6 @@
 -- `turns_light::is_light` meets its contract. Assumes nothing.
 use borrow.Author.Needs.{needs}
-use mathlib.Core.Path.{_∙_, refl, sym, ap}
-use mathlib.Core.Bool.{not}
+use mathlib.Core.Path.{refl, sym, _∙_}
 use borrow.Author.Tests.{not-true, not-false}
 use Rattle.turns_light.proofs.Lightness.{spot-tested}
 use Rattle.turns_light.proofs.is_light.Statement.{statement}

@@ -1,7 +1,6 @@
 -- `turns_light::is_nothing` meets its contract. Assumes nothing.
 use mathlib.Core.List.{[], _∷_}
 use mathlib.Core.Path.{refl, sym}
-use borrow.Author.Needs.{needs}
 use Rattle.turns_light.specs.Halves.{isNothing}
 use Rattle.turns_light.proofs.Halves.{missed}
 use Rattle.turns_light.proofs.is_nothing.Statement.{statement}
