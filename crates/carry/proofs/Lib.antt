@@ -1,2 +1,3 @@
--- The law of what a command leaves alone.
+-- The laws of what a command leaves alone, and of what is handed in.
 pub mod Kept
+mod Handed

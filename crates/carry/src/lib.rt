@@ -10,35 +10,28 @@ use paper::Reading;
 use paper::State;
 ghost use mathlib.Core.Path.{_≡_};
 ghost use mathlib.Core.Bool.{true};
-ghost use lib.ListN.{length};
-ghost use Rattle.paper.specs.Panel.{fontLength};
+ghost use mathlib.Core.List.{List};
+ghost use Prim.Native.Nat.{ℕ};
 ghost use Rattle.paper.specs.Downloads.{faces};
-ghost use Rattle.paper.specs.Carry.{commandOf, takeOf, commandStore, takeStore};
+ghost use Rattle.paper.specs.Carry.{exceeds, commandOf, takeOf, commandStore, takeStore};
 ghost use Rattle.laws_bytes.specs.Readings.{commandOk, readingOk};
 ghost use Rattle.carry_dots.specs.Does.{Ready, Does};
+ghost use Rattle.carry.specs.Heavy.{heavyCommand, heavy};
 
-// A command read whole.
-fn carry_out(g: Module, mem: &mut [u8], store: &mut [u8], font: &[u8], s: State, c: Command) -> Done
-    requires { ⌜ Ready g s (now mem) × ((length (now font) ≡ fontLength g) × (commandOk c ≡ true)) ⌝ }
-    ensures { λ r. ⌜ Does g (now (mem .entry)) r (now (mem .exit)) (commandOf g (faces (now (font .entry)) (now (store .entry))) s c)
-        × (now (store .exit) ≡ commandStore g (faces (now (font .entry)) (now (store .entry))) s c) ⌝ }
+// A command read whole. A character, BS, HT and LF come here only where their cell is too large: a light turn takes the others.
+fn carry_out(g: Module, mem: &mut [u8], store: &mut [u8], s: State, c: Command) -> Done
+    requires { ⌜ Ready g s (now mem) × ((commandOk c ≡ true) × (heavyCommand (exceeds g s) c ≡ true)) ⌝ }
+    ensures { λ r. ⌜ ((font : List ℕ) →
+        Does g (now (mem .entry)) r (now (mem .exit)) (commandOf g (faces font (now (store .entry))) s c)
+        × (now (store .exit) ≡ commandStore g (faces font (now (store .entry))) s c)) ⌝ }
 {
     let h = s.hold;
     let held = state::is_held(h);
     match c {
-        Command::Character(b) => carry_dots::character(g, mem, font, store, s, b),
-        Command::Back => {
-            let d = carry_dots::step(g, mem, s, 0x08);
-            d
-        }
-        Command::Tab => {
-            let d = carry_dots::step(g, mem, s, 0x09);
-            d
-        }
-        Command::LineFeed => {
-            let d = carry_dots::step(g, mem, s, 0x0A);
-            d
-        }
+        Command::Character(_) => carry_state::ends(s, Outcome::TooLarge),
+        Command::Back => carry_state::ends(s, Outcome::TooLarge),
+        Command::Tab => carry_state::ends(s, Outcome::TooLarge),
+        Command::LineFeed => carry_state::ends(s, Outcome::TooLarge),
         Command::Home => carry_state::home(g, s),
         Command::Clear => carry_dots::clear(g, mem, s),
         Command::Return => carry_state::carriage_return(g, s),
@@ -61,11 +54,13 @@ fn carry_out(g: Module, mem: &mut [u8], store: &mut [u8], font: &[u8], s: State,
     }
 }
 
-// What a byte gave to the half-read command, taken.
-pub fn take(g: Module, mem: &mut [u8], store: &mut [u8], font: &[u8], s: State, r: Reading) -> Done
-    requires { ⌜ Ready g s (now mem) × ((length (now font) ≡ fontLength g) × (readingOk g r ≡ true)) ⌝ }
-    ensures { λ d. ⌜ Does g (now (mem .entry)) d (now (mem .exit)) (takeOf g (faces (now (font .entry)) (now (store .entry))) s r)
-        × (now (store .exit) ≡ takeStore g (faces (now (font .entry)) (now (store .entry))) s r) ⌝ }
+// What a byte gave to the half-read command, taken; no image's byte. The last arm is that of an unknown code. A command leaves nothing
+// half read: said again, so that the compiler sees it in every arm.
+pub fn take(g: Module, mem: &mut [u8], store: &mut [u8], s: State, r: Reading) -> Done
+    requires { ⌜ Ready g s (now mem) × ((readingOk g r ≡ true) × (heavy (exceeds g s) r ≡ true)) ⌝ }
+    ensures { λ d. ⌜ ((font : List ℕ) →
+        Does g (now (mem .entry)) d (now (mem .exit)) (takeOf g (faces font (now (store .entry))) s r)
+        × (now (store .exit) ≡ takeStore g (faces font (now (store .entry))) s r)) ⌝ }
 {
     match r {
         Reading::More(half) => carry_state::ends(State { half, ..s }, Outcome::Unfinished),
@@ -74,37 +69,15 @@ pub fn take(g: Module, mem: &mut [u8], store: &mut [u8], font: &[u8], s: State, 
                 half: Half::Nothing,
                 ..s
             };
-            carry_out(g, mem, store, font, t, c)
-        }
-        Reading::ImageByte {
-            column,
-            row,
-            byte,
-            next,
-        } => {
-            let p = carry_dots::spot_of(g, s);
-            let v = s.settings;
-            let spans = carry_dots::image_byte(g, mem, p, v.style, column, row, byte);
-            carry_state::ends(
-                State {
-                    half: next,
-                    spans,
-                    ..s
-                },
-                Outcome::Unfinished,
-            )
-        }
-        Reading::ImageEnd { column, row, byte } => {
-            let p = carry_dots::spot_of(g, s);
-            let v = s.settings;
-            let spans = carry_dots::image_byte(g, mem, p, v.style, column, row, byte);
+            let d = carry_out(g, mem, store, t, c);
+            let u = d.state;
+            let outcome = d.outcome;
             carry_state::ends(
                 State {
                     half: Half::Nothing,
-                    spans,
-                    ..s
+                    ..u
                 },
-                Outcome::Carried,
+                outcome,
             )
         }
         Reading::GlyphEnd {
@@ -119,7 +92,7 @@ pub fn take(g: Module, mem: &mut [u8], store: &mut [u8], font: &[u8], s: State, 
             };
             carry_state::ends(t, Outcome::Cancelled)
         }
-        Reading::UnknownCode => {
+        _ => {
             let t = State {
                 half: Half::Nothing,
                 ..s

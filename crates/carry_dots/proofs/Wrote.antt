@@ -1,9 +1,9 @@
 -- What was done by a command, put together from what its calls did. Assumes nothing.
 use mathlib.Core.Path.{_≡_, refl, sym, ap, ap₂, _∙_}
-use mathlib.Core.Bool.{Bool, true, false, cond, _&&_}
+use mathlib.Core.Bool.{Bool, true, false, cond}
 use mathlib.Core.List.{List, [], _∷_}
 use Prim.Native.Nat.{ℕ, _+_, _<_, _≤_}
-use lib.Dec.{ltb, eqb}
+use lib.Dec.{eqb}
 use Rattle.paper.specs.declared.Module.{Module}
 use Rattle.paper.specs.declared.Cursor.{Cursor}
 use Rattle.paper.specs.declared.Half.{Half}
@@ -11,29 +11,25 @@ use Rattle.paper.specs.declared.Outcome.{Outcome}
 use Rattle.paper.specs.declared.Outcome.the-variants.{Carried}
 use Rattle.paper.specs.declared.Span.{Span}
 use Rattle.paper.specs.declared.State.{State}
-use Rattle.paper.specs.declared.Style.{Style}
 use Rattle.paper.specs.declared.View.{View}
-use Rattle.paper.specs.Strokes.{Stroke, rectAt, applyAll, markRect, markAll}
+use Rattle.paper.specs.Strokes.{Stroke, applyAll, markRect, markAll}
 use Rattle.paper.specs.Settings.{initialState, withHalf, withBase, windowAt, defined, withCursor, atCursor, cursorIn, viewOf, withView, withSpans}
 use Rattle.paper.specs.Bounds.{halfOk}
-use Rattle.paper.specs.Cells.{tooLarge, memoryRect, eraseStroke}
+use Rattle.paper.specs.Cells.{memoryRect, eraseStroke}
 use Rattle.paper.specs.Moves.{Moved}
-use Rattle.paper.specs.Carry.{Meaning, means, answers, exceeds, moves, imageStrokes}
+use Rattle.paper.specs.Carry.{Meaning, means, answers, moves}
 use Rattle.paper.specs.Calls.{settled}
 use Rattle.carry_state.specs.declared.Done.{Done}
 use Rattle.carry_state.specs.Says.{Says, done}
 use Rattle.laws_state.specs.Room.{Kept}
-use Rattle.carry_state.proofs.Facts.{selected-small, place-small, tested}
-use Rattle.glyphs.specs.declared.Cell.{Cell}
-use Rattle.glyphs.specs.Cell.{cellOf}
-use Rattle.cells.specs.Drawn.{imaged}
+use Rattle.carry_state.proofs.Facts.{selected-small, place-small}
 use Rattle.laws_state.proofs.Parts.{parts, whole}
 use Rattle.laws_state.proofs.Builders.{half-parts}
 use Rattle.laws_state.proofs.Views.{view-place}
 use Rattle.laws_memory.specs.Rectangles.{cleared}
 use Rattle.moves.specs.declared.Spot.{Spot}
 use Rattle.moves.specs.Does as pens
-use Rattle.carry_dots.specs.Does.{Ready, Does, ImageStored}
+use Rattle.carry_dots.specs.Does.{Ready, Does}
 
 -- a cursor set leaves the spans
 pub cursor-spans : (s : State) (k : Cursor) → atCursor s k .spans ≡ s .spans
@@ -76,11 +72,6 @@ module _ {g : Module} {m : List ℕ} where
         mem = d .mem ∙ sym (ap (λ (x : Meaning). applyAll g m (x .strokes)) h);
       }
 
--- whether the cell exceeds the range, by what the calls gave
-pub spot-tested : (g : Module) (s : State) (p : Spot) (c : Cell) (t u : Bool) → p ≡ pens.spot (viewOf g s) (s .spans)
-    → c ≡ cellOf g (s .settings .width) (s .settings .style) → t ≡ tooLarge (p .view) (c .columns) (c .rows) → t ≡ u → exceeds g s ≡ u
-spot-tested g s p c t u e = tested g s (p .view) c t u (ap (λ (q : Spot). q .view) e)
-
 -- what `settle` asks of a spot after a move that keeps its range
 pub settles : (g : Module) (s : State) (m : List ℕ) (t : Moved) (v : View) → Ready g s m → Kept (viewOf g s) t → v ≡ t .view
     → (s .selected ≤ 4) × (v .left + v .x < 65536) × (v .top + v .y < 65536)
@@ -98,18 +89,6 @@ ready-half g s m p h r =
       state-ok = whole g (withHalf s p) (half-parts g s (parts g s (r .state-ok)) p h);
     }
 
--- an image byte, and what is half read after it
-pub does-picture : {g : Module} {m m′ : List ℕ} {r : Done} {ps : List Span} (s : State) (p : Half) (o : Outcome) (column row b : ℕ)
-    → ImageStored g (pens.spot (viewOf g s) (s .spans)) (s .settings .style) column row b m ps m′
-    → r ≡ done (withHalf (withSpans s ps) p) o
-    → Does g m r m′ (means (withHalf s p) o (imageStrokes (viewOf g s) (s .settings .style) column row b))
-does-picture s p o column row b d f =
-    record {
-      state = ap (λ (x : Done). x .state) f ∙ ap (λ (x : List Span). withHalf (withSpans s x) p) (d .spans);
-      outcome = ap (λ (x : Done). x .outcome) f;
-      mem = d .mem;
-    }
-
 -- all of memory zeroed, and the initial state
 pub does-erase : {g : Module} {m m′ : List ℕ} {r : Done} {e : Meaning} {t : State} {ps : List Span} (s : State)
     → m′ ≡ cleared g (memoryRect g) m → ps ≡ markRect (memoryRect g) (s .spans) → t ≡ initialState g
@@ -125,21 +104,3 @@ does-erase {g} {m} s c k i f h =
       outcome = ap (λ (x : Done). x .outcome) f ∙ sym (ap (λ (x : Meaning). x .outcome) h);
       mem = c ∙ sym (ap (λ (x : Meaning). applyAll g m (x .strokes)) h);
     }
-
-module _ (g : Module) (p : Spot) (y : Style) (column row b : ℕ) (m : List ℕ) where
-  -- an image byte inside the range is stored
-  pub image-stored-in : {m′ : List ℕ} {ps : List Span} → (ltb (p .view .x + column) (p .view .width) && ltb (p .view .y + row) (p .view .height)) ≡ true
-      → m′ ≡ imaged g y (p .view .left + (p .view .x + column)) (p .view .top + (p .view .y + row)) b m
-      → ps ≡ markRect (rectAt (p .view .left + (p .view .x + column)) (p .view .top + (p .view .y + row)) 1 1) (p .spans)
-      → ImageStored g p y column row b m ps m′
-  unfolding imageStrokes imaged
-  image-stored-in t e k =
-      record {
-        spans = rw t k;
-        mem = rw t e;
-      }
-
-  -- one outside is consumed
-  pub image-stored-out : (ltb (p .view .x + column) (p .view .width) && ltb (p .view .y + row) (p .view .height)) ≡ false → ImageStored g p y column row b m (p .spans) m
-  unfolding imageStrokes
-  image-stored-out t = record { spans = rw t; mem = rw t }

@@ -1,12 +1,12 @@
--- What a command is answered, from the tests of the papers' order: 14, 15, 11, 17, 16, 19, or carried out; and what it
--- does to the downloads. Assumes nothing.
+-- What a command is answered, from the tests of the papers' order: 14, 15, 11, 17, 16, or carried out; and what it does to
+-- the downloads. Assumes nothing.
 use mathlib.Core.Path.{_≡_, refl, sym, ap, _∙_}
 use mathlib.Core.Bool.{Bool, true, false, cond, _&&_}
 use mathlib.Core.List.{[]}
 use Rattle.paper.specs.declared.Module.{Module}
 use Rattle.paper.specs.declared.Command.{Command}
 use Rattle.paper.specs.declared.Outcome.{Outcome}
-use Rattle.paper.specs.declared.Outcome.the-variants.{OutOfDomain, NotCarried, WindowHeld, TooLarge, NotDefined, NotStored}
+use Rattle.paper.specs.declared.Outcome.the-variants.{OutOfDomain, NotCarried, WindowHeld, TooLarge, NotDefined}
 use Rattle.paper.specs.declared.State.{State}
 use Rattle.paper.specs.Downloads.{Faces}
 use Rattle.paper.specs.Numbers.{isCarried}
@@ -46,13 +46,6 @@ module _ (g : Module) (font : Faces) (s : State) (c : Command) where
       → a .tooLarge ≡ true → commandOf g font s c ≡ answers s TooLarge
   unfolding commandOf
   is-16 a b d e f = rw (a, b, d, e, f)
-
-  -- a download that is not stored
-  pub is-19 : let a = askedOf g (font .store) s c in
-      a .notCarried ≡ false → (a .ownersOnly && isHeld (s .hold)) ≡ false → a .outOfDomain ≡ false → a .notDefined ≡ false
-      → a .tooLarge ≡ false → a .notStored ≡ true → commandOf g font s c ≡ answers s NotStored
-  unfolding commandOf
-  is-19 a b d e f h = rw (a, b, d, e, f, h)
 
   -- none of these
   pub is-10 : Allowed g (font .store) s c → commandOf g font s c ≡ carriedOut g font s c

@@ -1,2 +1,3 @@
 -- The laws of the downloads changed.
 pub mod Stored
+mod Erased

@@ -1,5 +1,5 @@
 -- What a command, and what a byte was read as, owe where they write no memory and may change the downloads; and what a download that
--- has come whole comes to, by whether a window is held. Assumes nothing.
+-- has come whole and an erase come to, by whether a window is held. Assumes nothing.
 use mathlib.Core.Path.{_≡_}
 use mathlib.Core.Bool.{Bool, cond, not, _&&_, _||_}
 use mathlib.Core.List.{List}
@@ -7,12 +7,13 @@ use Prim.Native.Nat.{ℕ}
 use Rattle.paper.specs.declared.Module.{Module}
 use Rattle.paper.specs.declared.Columns.{Columns}
 use Rattle.paper.specs.declared.Outcome.{Outcome}
-use Rattle.paper.specs.declared.Outcome.the-variants.{Carried, WindowHeld, Dropped}
+use Rattle.paper.specs.declared.Outcome.the-variants.{Carried, OutOfDomain, WindowHeld, Dropped, NotStored}
 use Rattle.paper.specs.declared.State.{State}
 use Rattle.paper.specs.declared.Command.{Command}
 use Rattle.paper.specs.declared.Reading.{Reading}
-use Rattle.paper.specs.Downloads.{isDropped, putIn, Faces}
-use Rattle.paper.specs.Carry.{commandOf, takeOf, commandStore, takeStore}
+use Rattle.paper.specs.Numbers.{isCarried}
+use Rattle.paper.specs.Downloads.{isStored, isDropped, putIn, erased, Faces}
+use Rattle.paper.specs.Carry.{erasable, commandOf, takeOf, commandStore, takeStore}
 use Rattle.carry_state.specs.declared.Done.{Done}
 use Rattle.carry_state.specs.Says.{Says}
 
@@ -35,3 +36,11 @@ answerIf held dropped = cond held WindowHeld (cond dropped Dropped Carried)
 
 abbrev pub storedIf : Bool → List ℕ → ℕ → Columns → List ℕ
 storedIf held ds code c = cond held ds (putIn ds code c)
+
+-- what an erase is answered, and the downloads that it leaves
+abbrev pub eraseAnswer : Bool → List ℕ → ℕ → ℕ → Outcome
+eraseAnswer held ds a code =
+    cond held WindowHeld (cond (not (erasable a code)) OutOfDomain (cond (isStored ds code) Carried NotStored))
+
+abbrev pub erasedIf : Bool → List ℕ → ℕ → ℕ → List ℕ
+erasedIf held ds a code = cond (isCarried (eraseAnswer held ds a code)) (erased ds code) ds

@@ -16,7 +16,7 @@ ghost use mathlib.Core.List.{List};
 ghost use Prim.Native.Nat.{ℕ};
 ghost use Rattle.paper.specs.Downloads.{faces};
 ghost use Rattle.paper.specs.Carry.{isHeld};
-ghost use Rattle.carry_store.specs.Stores.{StoresCommand, StoresReading, notedIf, answerIf, storedIf};
+ghost use Rattle.carry_store.specs.Stores.{StoresCommand, StoresReading, notedIf, answerIf, storedIf, eraseAnswer, erasedIf};
 
 // Stores a download that has come whole, and gives its define's note of a drop, which was `noted` before. While held nothing is
 // stored, and nothing dropped.
@@ -71,21 +71,29 @@ pub fn glyph_end(store: &mut [u8], s: State, batch: Batch, noted: bool, columns:
     carry_state::ends(State { half, ..s }, answer)
 }
 
+// Erases a code, and gives what that is answered. It knows no state, so that its answers meet before one is built.
+fn erase_one(store: &mut [u8], held: bool, a: u8, code: u8) -> Outcome
+    ensures { λ r. ⌜ (r ≡ eraseAnswer held (now (store .entry)) a code) × (now (store .exit) ≡ erasedIf held (now (store .entry)) a code) ⌝ }
+{
+    if held {
+        return Outcome::WindowHeld;
+    }
+    if !((a == 1) & (0x20 <= code)) {
+        return Outcome::OutOfDomain;
+    }
+    if downloads::is_stored(store, code) {
+        downloads::erase(store, code);
+        return Outcome::Carried;
+    }
+    Outcome::NotStored
+}
+
 // Erase; `held` says whether a window is held.
 pub fn erase(g: Module, store: &mut [u8], s: State, held: bool, a: u8, code: u8) -> Done
     requires { ⌜ held ≡ isHeld (s .hold) ⌝ }
     ensures { λ r. ⌜ ((font : List ℕ) →
         StoresCommand g (faces font (now (store .entry))) s (Command.Erase a code) r (now (store .exit))) ⌝ }
 {
-    if held {
-        return carry_state::ends(s, Outcome::WindowHeld);
-    }
-    if !((a == 1) & (0x20 <= code)) {
-        return carry_state::ends(s, Outcome::OutOfDomain);
-    }
-    if downloads::is_stored(store, code) {
-        downloads::erase(store, code);
-        return carry_state::ends(s, Outcome::Carried);
-    }
-    carry_state::ends(s, Outcome::NotStored)
+    let answer = erase_one(store, held, a, code);
+    carry_state::ends(s, answer)
 }

@@ -89,7 +89,7 @@ carried-nothing g f s n Uncarried = n
 carried-nothing g f s n (Erase k code) = n
 
 -- any command
-command-nothing : (g : Module) (f : Faces) (s : State) (c : Command) → commandOf g f (withHalf s Nothing) c .state .half ≡ Nothing
+pub command-nothing : (g : Module) (f : Faces) (s : State) (c : Command) → commandOf g f (withHalf s Nothing) c .state .half ≡ Nothing
 command-nothing g f s c =
     by-command g f (λ (t : Meaning). t .state .half ≡ Nothing) (withHalf s Nothing) c (λ o. refl)
     (λ _. carried-nothing g f (withHalf s Nothing) refl c)

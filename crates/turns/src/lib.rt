@@ -9,12 +9,14 @@ use paper::Reading;
 use paper::State;
 use turns_light::Turn;
 ghost use mathlib.Core.Path.{_≡_};
-ghost use mathlib.Core.Bool.{true};
+ghost use mathlib.Core.Bool.{true, false};
 ghost use mathlib.Core.List.{List};
 ghost use Prim.Native.Nat.{ℕ, _<_, _≤_};
 ghost use lib.ListN.{length, drop};
 ghost use Rattle.paper.specs.Bounds.{halfOk};
-ghost use Rattle.turns_light.specs.Turns.{Gathers, Due, Turned};
+ghost use Rattle.carry.specs.Heavy.{heavy};
+ghost use Rattle.turns_light.specs.Halves.{isImage};
+ghost use Rattle.turns_light.specs.Turns.{lightStart, lightAt, Gathers, Due, Turned};
 
 // An image's byte and those that follow it.
 fn feed_image(
@@ -72,18 +74,29 @@ fn feed_image(
     Turn { fed, at }
 }
 
+// Whether an image's data is half read.
+fn is_image(half: Half) -> bool
+    ensures { λ r. ⌜ r ≡ isImage half ⌝ }
+{
+    match half {
+        Half::ImageData { .. } => true,
+        _ => false,
+    }
+}
+
 // What the bytes of a command came to: what the last of them gave, and the place after it.
 struct Gathered {
     reading: Reading,
     at: usize,
 }
 
-// The bytes of a command from `from` on, up to the one that completes it or the piece's end. It knows no state: one is touched once
-// for each command and not for each of its bytes.
+// The bytes of a command from `from` on, up to the one that completes it, the one before an image's data, or the piece's end. It knows
+// no state: one is touched once for each command and not for each of its bytes.
 fn gather(g: Module, half: Half, piece: &[u8], from: usize) -> Gathered
-    requires { ⌜ (from < length (now piece)) × (halfOk g half ≡ true) ⌝ }
+    requires { ⌜ (from < length (now piece)) × (halfOk g half ≡ true) × (isImage half ≡ false) ⌝ }
     ensures { λ r. ⌜ (from < r .at) × (r .at ≤ length (now (piece .entry)))
-        × Gathers g (Reading.More half) (drop from (now (piece .entry))) (r .reading) (drop (r .at) (now (piece .entry))) ⌝ }
+        × Gathers g (Reading.More half) (drop from (now (piece .entry))) (r .reading) (drop (r .at) (now (piece .entry)))
+        × (heavy (lightStart half (now (piece .entry)) from) (r .reading) ≡ true) ⌝ }
 {
     let mut h = half;
     let mut i = from;
@@ -92,6 +105,9 @@ fn gather(g: Module, half: Half, piece: &[u8], from: usize) -> Gathered
         i += 1;
         match r {
             Reading::More(next) => {
+                if is_image(next) {
+                    return Gathered { reading: r, at: i };
+                }
                 h = next;
             }
             _ => {
@@ -105,7 +121,7 @@ fn gather(g: Module, half: Half, piece: &[u8], from: usize) -> Gathered
     }
 }
 
-// The bytes of a command: carried out, and counted.
+// The bytes of a command that is not light: carried out, and counted.
 fn feed_command(
     g: Module,
     mem: &mut [u8],
@@ -115,7 +131,7 @@ fn feed_command(
     f: Fed,
     i: usize,
 ) -> Turn
-    requires { ⌜ Due g (now mem) (now font) (now piece) f i ⌝ }
+    requires { ⌜ Due g (now mem) (now font) (now piece) f i × ((isImage (f .state .half) ≡ false) × (lightAt g (f .state) (now piece) i ≡ false)) ⌝ }
     ensures { λ r. ⌜ Turned g (now (font .entry)) f (now (mem .entry)) (now (store .entry)) (now (piece .entry)) i
         r (now (mem .exit)) (now (store .exit)) ⌝ }
 {
@@ -124,7 +140,7 @@ fn feed_command(
     let r = gather(g, half, piece, i);
     let reading = r.reading;
     let at = r.at;
-    let d = carry::take(g, mem, store, font, before, reading);
+    let d = carry::take(g, mem, store, before, reading);
     let state = d.state;
     let outcome = d.outcome;
     let refusal = f.refusal;

@@ -28,9 +28,9 @@ use Rattle.glyphs.specs.Cell.{cellOf}
 use Rattle.moves.specs.declared.Spot.{Spot}
 use Rattle.text.specs.Inked.{Inked}
 use Rattle.runs.specs.Runs.{under}
-use Rattle.carry_dots.proofs.Inks.{inks}
 use Rattle.strides.specs.Strides.{styledBy}
 use Rattle.turns_light.specs.Turns.{restyled, onDesk}
+use Rattle.turns_light.proofs.Inks.{inks}
 
 -- ---- settings and a cursor are put in side by side
 

@@ -1,6 +1,6 @@
 -- What a turn of the loop over a piece owes. Assumes nothing.
 use mathlib.Core.Path.{_≡_}
-use mathlib.Core.Bool.{true, false}
+use mathlib.Core.Bool.{Bool, true, false, not, _&&_}
 use mathlib.Core.List.{List, _∷_}
 use Prim.Native.Nat.{ℕ, _+_, _-_, _<_, _≤_}
 use lib.ListN.{length, drop}
@@ -23,6 +23,7 @@ use Rattle.laws_state.specs.Told.{fed}
 use Rattle.moves.specs.declared.Spot.{Spot}
 use Rattle.strides.specs.Strides.{isLight}
 use Rattle.carry_dots.specs.Does.{Ready}
+use Rattle.turns_light.specs.Halves.{isNothing}
 use Rattle.turns_light.specs.declared.Turn.{Turn}
 
 -- a byte that is a character, while nothing is half read and a cell has room
@@ -36,6 +37,13 @@ pub record Light (g : Module) (s : State) (piece : List ℕ) (i : ℕ) : Type 0 
   pub free : s .half ≡ Nothing
   pub has : isLight piece i ≡ true
   pub room : exceeds g s ≡ false
+
+-- the same two questions as a test: whether it begins there while nothing is half read, and whether a cell has room too
+abbrev pub lightStart : Half → List ℕ → ℕ → Bool
+lightStart h piece i = isNothing h && isLight piece i
+
+abbrev pub lightAt : Module → State → List ℕ → ℕ → Bool
+lightAt g s piece i = lightStart (s .half) piece i && not (exceeds g s)
 
 -- the state with another style, and with its current window's cursor and its spans where a spot has them
 abbrev pub restyled : State → Style → State

@@ -11,10 +11,10 @@ use paper::Settings;
 use paper::State;
 use paper::Style;
 ghost use mathlib.Core.Path.{_≡_};
-ghost use mathlib.Core.Bool.{true};
 ghost use Prim.Native.Nat.{_+_, _<_, _≤_};
 ghost use lib.ListN.{length};
-ghost use Rattle.turns_light.specs.Turns.{Light, Due, Turned, onDesk, turnedTo};
+ghost use Rattle.turns_light.specs.Halves.{isNothing};
+ghost use Rattle.turns_light.specs.Turns.{Light, lightAt, Due, Turned, onDesk, turnedTo};
 
 // A turn of the loop over a piece: what has been fed, and the place of the next byte.
 pub struct Turn {
@@ -24,7 +24,7 @@ pub struct Turn {
 
 // Whether no command is half read.
 fn is_nothing(half: Half) -> bool
-    ensures { λ r. ⌜ (r ≡ true → half ≡ Half.Nothing) ⌝ }
+    ensures { λ r. ⌜ r ≡ isNothing half ⌝ }
 {
     match half {
         Half::Nothing => true,
@@ -35,7 +35,7 @@ fn is_nothing(half: Half) -> bool
 // Whether what stands at i is carried out without a state: nothing is half read, and a cell has room.
 pub fn is_light(g: Module, s: State, piece: &[u8], i: usize) -> bool
     requires { ⌜ (s .selected ≤ 4) × (g .visible ≤ g .columns) × (g .glyph ≤ 8) × (i < length (now piece)) ⌝ }
-    ensures { λ r. ⌜ (r ≡ true → Light g s (now (piece .entry)) i) ⌝ }
+    ensures { λ r. ⌜ r ≡ lightAt g s (now (piece .entry)) i ⌝ }
 {
     let half = s.half;
     if !is_nothing(half) {

@@ -5,8 +5,11 @@ use native.Mathlib.Omega.{arith}
 use Rattle.laws_bytes.specs.Readings.{readingOk}
 use Rattle.laws_state.proofs.Parts.{parts}
 use Rattle.paper.specs.Downloads.{faces}
-use Rattle.paper.specs.Carry.{takeOf, takeStore}
+use Rattle.paper.specs.Carry.{exceeds, takeOf, takeStore}
 use Rattle.turns.proofs.Counts.{carried-one, answered-one, counted-by}
+use Rattle.turns.proofs.Onward.{heavy-where}
+use Rattle.turns_light.specs.Turns.{lightStart}
+use Rattle.turns_light.proofs.Lightness.{not-light}
 use Rattle.turns_light.proofs.Gathering.{gathers-ok, taken-reached}
 use Rattle.turns.proofs.feed_command.Statement.{statement}
 use Rattle.turns.proofs.feed_command.Tie as tie
@@ -15,25 +18,34 @@ use Rattle.turns.proofs.feed_command.Tie as tie
 gather-requires : tie.Need-gather-requires
 gather-requires c κs =
     let start = c .before .before .before .before .before in
-    (start .pre .inside, parts (start .args .g) (start .args .f .state) (start .pre .ready .state-ok) .half)
+    let due = start .pre .0 in
+    (due .inside, parts (start .args .g) (start .args .f .state) (due .ready .state-ok) .half, start .pre .1 .0)
 
 take-requires : tie.Need-take-requires
 unfolding readingOk
 take-requires c κs =
     let start = c .before .before .before .before .before .before .before .before in
-    let due = start .pre in
-    (due .ready, (due .font-whole, gathers-ok (c .before .before .gather .ensures .2) (parts (start .args .g) (start .args .f .state) (due .ready .state-ok) .half)))
+    let a = start .args in
+    let due = start .pre .0 in
+    let gathered = c .before .before .gather in (
+      due .ready,
+      (
+        gathers-ok (gathered .ensures .2) (parts (a .g) (a .f .state) (due .ready .state-ok) .half),
+        heavy-where (lightStart (a .f .state .half) (a .piece .now) (a .i)) (exceeds (a .g) (a .f .state))
+            (not-light (a .g) (a .f .state) (a .piece .now) (a .i) (start .pre .1 .1)) (gathered .result .reading) (gathered .ensures .3),
+      ),
+    )
 
 add-t23 : tie.Need-add-t23
 add-t23 c =
     let taken = c .before .before .before .before .before .before .before in
-    let due = taken .before .before .before .before .before .before .before .before .before .pre in
+    let due = taken .before .before .before .before .before .before .before .before .before .pre .0 in
     omega (arith, c .before .carried-by .ensures, carried-one (taken .take .result .outcome), due .inside, due .countable)
 
 add-t25 : tie.Need-add-t25
 add-t25 c =
     let taken = c .before .before .before .before .before .before .before .before .before in
-    let due = taken .before .before .before .before .before .before .before .before .before .pre in
+    let due = taken .before .before .before .before .before .before .before .before .before .pre .0 in
     omega (arith, c .before .answered-by .ensures, answered-one (taken .take .result .outcome), due .inside, due .countable)
 
 returns : tie.Need-returns
@@ -42,7 +54,7 @@ returns c =
     let gathering = taken .before .before .before in
     let start = gathering .before .before .before .before .before .before in
     let a = start .args in
-    let due = start .pre in
+    let due = start .pre .0 in
     let r = gathering .gather .result in
     let gathered = gathering .gather .ensures in
     let f = faces (a .font .now) (a .store .now) in
@@ -52,7 +64,7 @@ returns c =
       reached =
           rw (counted-by (a .g) (a .f) (taken .take .result) (a .mem .now) _ (a .store .now) _ (takeStore (a .g) f (a .f .state) (r .reading))
           (takeOf (a .g) f (a .f .state) (r .reading)) _ _
-          (taken .take .ensures .0) (taken .take .ensures .1) (c .before .before .before .carried-by .ensures) (c .before .answered-by .ensures))
+          (taken .take .ensures (a .font .now) .0) (taken .take .ensures (a .font .now) .1) (c .before .before .before .carried-by .ensures) (c .before .answered-by .ensures))
           (taken-reached (a .g) (a .font .now) (a .f .refusal) (a .f .carried) (a .f .answered) (a .mem .now) (a .store .now) (a .f .state) (a .f .outcome)
           (a .piece .now) (a .i) (r .at) (due .inside) (gathered .0) (gathered .1) (gathered .2));
     }

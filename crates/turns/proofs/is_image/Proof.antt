@@ -1,0 +1,10 @@
+-- `turns::is_image` meets its contract. Assumes nothing.
+use mathlib.Core.Path.{sym}
+use Rattle.turns_light.specs.Halves.{isImage}
+use Rattle.turns.proofs.Onward.{no-image}
+use Rattle.turns.proofs.is_image.Statement.{statement}
+use Rattle.turns.proofs.is_image.Tie as tie
+
+pub is-image-spec : {M : Type 1} → statement M
+unfolding isImage
+is-image-spec = tie.close (tie.spec (λ c. c .match .keys1) (λ c. rw (c .enum-told .given .1)) (λ c. sym (no-image (c .before .args .half) (c .match .keys2))))
