@@ -54,8 +54,8 @@ fn carry_out(g: Module, mem: &mut [u8], store: &mut [u8], s: State, c: Command) 
     }
 }
 
-// What a byte gave to the half-read command, taken; no image's byte. The last arm is that of an unknown code. A command leaves nothing
-// half read: said again, so that the compiler sees it in every arm.
+// What a byte gave to the half-read command, taken; no image's byte, and so the last arm is that of an unknown code. That a command
+// leaves nothing half read is said again behind it, where the ways of all commands meet.
 pub fn take(g: Module, mem: &mut [u8], store: &mut [u8], s: State, r: Reading) -> Done
     requires { ⌜ Ready g s (now mem) × ((readingOk g r ≡ true) × (heavy (exceeds g s) r ≡ true)) ⌝ }
     ensures { λ d. ⌜ ((font : List ℕ) →

@@ -73,7 +73,8 @@ pub fn glyph_end(store: &mut [u8], s: State, batch: Batch, noted: bool, columns:
 
 // Erases a code, and gives what that is answered. It knows no state, so that its answers meet before one is built.
 fn erase_one(store: &mut [u8], held: bool, a: u8, code: u8) -> Outcome
-    ensures { λ r. ⌜ (r ≡ eraseAnswer held (now (store .entry)) a code) × (now (store .exit) ≡ erasedIf held (now (store .entry)) a code) ⌝ }
+    ensures { λ r. ⌜ (r ≡ eraseAnswer held (now (store .entry)) a code)
+        × (now (store .exit) ≡ erasedIf held (now (store .entry)) a code) ⌝ }
 {
     if held {
         return Outcome::WindowHeld;

@@ -131,7 +131,8 @@ fn feed_command(
     f: Fed,
     i: usize,
 ) -> Turn
-    requires { ⌜ Due g (now mem) (now font) (now piece) f i × ((isImage (f .state .half) ≡ false) × (lightAt g (f .state) (now piece) i ≡ false)) ⌝ }
+    requires { ⌜ Due g (now mem) (now font) (now piece) f i
+        × ((isImage (f .state .half) ≡ false) × (lightAt g (f .state) (now piece) i ≡ false)) ⌝ }
     ensures { λ r. ⌜ Turned g (now (font .entry)) f (now (mem .entry)) (now (store .entry)) (now (piece .entry)) i
         r (now (mem .exit)) (now (store .exit)) ⌝ }
 {

@@ -38,7 +38,7 @@ pub record Light (g : Module) (s : State) (piece : List ℕ) (i : ℕ) : Type 0 
   pub has : isLight piece i ≡ true
   pub room : exceeds g s ≡ false
 
--- the same two questions as a test: whether it begins there while nothing is half read, and whether a cell has room too
+-- the same as a test: whether such a stretch begins there, and whether a cell has room for it too
 abbrev pub lightStart : Half → List ℕ → ℕ → Bool
 lightStart h piece i = isNothing h && isLight piece i
 

@@ -56,7 +56,8 @@ returns c font =
     let a = start .args in
     let f = faces font (now (a .store)) in
     let told = c .before .enum-told .given .1 in
-    rw told (kept-answered f (a .s) (Character _) (c .ends .ensures) (is-16 (a .g) f (a .s) (Character _) refl refl refl refl (rw told at (start .pre .1 .1))) refl)
+    let large = is-16 (a .g) f (a .s) (Character _) refl refl refl refl (rw told at (start .pre .1 .1)) in
+    rw told (kept-answered f (a .s) (Character _) (c .ends .ensures) large refl)
 
 returns-2 : tie.Need-returns-2
 unfolding asks outcomeNumber isCell
@@ -65,7 +66,8 @@ returns-2 c font =
     let a = start .args in
     let f = faces font (now (a .store)) in
     let told = c .before .enum-told2 .given .1 in
-    rw told (kept-answered f (a .s) Back (c .ends2 .ensures) (is-16 (a .g) f (a .s) Back refl refl refl refl (rw told at (start .pre .1 .1))) refl)
+    let large = is-16 (a .g) f (a .s) Back refl refl refl refl (rw told at (start .pre .1 .1)) in
+    rw told (kept-answered f (a .s) Back (c .ends2 .ensures) large refl)
 
 returns-3 : tie.Need-returns-3
 unfolding asks outcomeNumber isCell
@@ -74,7 +76,8 @@ returns-3 c font =
     let a = start .args in
     let f = faces font (now (a .store)) in
     let told = c .before .enum-told3 .given .1 in
-    rw told (kept-answered f (a .s) Tab (c .ends3 .ensures) (is-16 (a .g) f (a .s) Tab refl refl refl refl (rw told at (start .pre .1 .1))) refl)
+    let large = is-16 (a .g) f (a .s) Tab refl refl refl refl (rw told at (start .pre .1 .1)) in
+    rw told (kept-answered f (a .s) Tab (c .ends3 .ensures) large refl)
 
 returns-4 : tie.Need-returns-4
 unfolding asks outcomeNumber isCell
@@ -83,7 +86,8 @@ returns-4 c font =
     let a = start .args in
     let f = faces font (now (a .store)) in
     let told = c .before .enum-told4 .given .1 in
-    rw told (kept-answered f (a .s) LineFeed (c .ends4 .ensures) (is-16 (a .g) f (a .s) LineFeed refl refl refl refl (rw told at (start .pre .1 .1))) refl)
+    let large = is-16 (a .g) f (a .s) LineFeed refl refl refl refl (rw told at (start .pre .1 .1)) in
+    rw told (kept-answered f (a .s) LineFeed (c .ends4 .ensures) large refl)
 
 returns-5 : tie.Need-returns-5
 unfolding leaves
@@ -163,7 +167,8 @@ unfolding asks outcomeNumber
 returns-16 c font =
     let a = c .before .before .before .before .before .before .args in
     let f = faces font (now (a .store)) in
-    rw (c .before .enum-told9 .given .1) (kept-answered f (a .s) Uncarried (c .ends5 .ensures) (is-14 (a .g) f (a .s) Uncarried refl) refl)
+    rw (c .before .enum-told9 .given .1)
+    (kept-answered f (a .s) Uncarried (c .ends5 .ensures) (is-14 (a .g) f (a .s) Uncarried refl) refl)
 
 returns-17 : tie.Need-returns-17
 returns-17 c font =

@@ -19,7 +19,8 @@ returns-3 c =
     let erasing = c .before .before in
     let tested = erasing .before .before in
     let domain = tested .before .before .before in
-    rw (domain .before .if1 .left, domain .if2 .left, sym (tested .before .is-stored .ensures) ∙ tested .if3 .taken) (refl, erasing .erase .ensures)
+    rw (domain .before .if1 .left, domain .if2 .left, sym (tested .before .is-stored .ensures) ∙ tested .if3 .taken)
+    (refl, erasing .erase .ensures)
 
 returns-4 : tie.Need-returns-4
 unfolding outcomeNumber

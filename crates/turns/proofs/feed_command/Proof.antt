@@ -57,6 +57,7 @@ returns c =
     let due = start .pre .0 in
     let r = gathering .gather .result in
     let gathered = gathering .gather .ensures in
+    let done = taken .take .ensures (a .font .now) in
     let f = faces (a .font .now) (a .store .now) in
     record {
       some = gathered .0;
@@ -64,7 +65,7 @@ returns c =
       reached =
           rw (counted-by (a .g) (a .f) (taken .take .result) (a .mem .now) _ (a .store .now) _ (takeStore (a .g) f (a .f .state) (r .reading))
           (takeOf (a .g) f (a .f .state) (r .reading)) _ _
-          (taken .take .ensures (a .font .now) .0) (taken .take .ensures (a .font .now) .1) (c .before .before .before .carried-by .ensures) (c .before .answered-by .ensures))
+          (done .0) (done .1) (c .before .before .before .carried-by .ensures) (c .before .answered-by .ensures))
           (taken-reached (a .g) (a .font .now) (a .f .refusal) (a .f .carried) (a .f .answered) (a .mem .now) (a .store .now) (a .f .state) (a .f .outcome)
           (a .piece .now) (a .i) (r .at) (due .inside) (gathered .0) (gathered .1) (gathered .2));
     }

@@ -27,7 +27,8 @@ feed-command-requires : tie.Need-feed-command-requires
 feed-command-requires c κs =
     let testing = c .before .before .before .before in
     let start = c .before .before .before .before .before .before .before .before .before .before in
-    (start .pre, (no-image (start .args .f .state .half) (c .before .before .match .keys2), sym (testing .is-light .ensures) ∙ c .before .before .before .if1 .left))
+    let other = no-image (start .args .f .state .half) (c .before .before .match .keys2) in
+    (start .pre, (other, sym (testing .is-light .ensures) ∙ c .before .before .before .if1 .left))
 
 pub feed-some-spec : {M : Type 1} → statement M
 feed-some-spec =

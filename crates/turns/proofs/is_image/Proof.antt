@@ -7,4 +7,9 @@ use Rattle.turns.proofs.is_image.Tie as tie
 
 pub is-image-spec : {M : Type 1} → statement M
 unfolding isImage
-is-image-spec = tie.close (tie.spec (λ c. c .match .keys1) (λ c. rw (c .enum-told .given .1)) (λ c. sym (no-image (c .before .args .half) (c .match .keys2))))
+is-image-spec =
+    tie.close
+    (tie.spec
+    (λ c. c .match .keys1)
+    (λ c. rw (c .enum-told .given .1))
+    (λ c. sym (no-image (c .before .args .half) (c .match .keys2))))
