@@ -2,8 +2,8 @@
 use native.Mathlib.Omega.{arith}
 use borrow.Author.Tests.{lt-ltb, le-ltb}
 use Rattle.paper.specs.Reading.{readImage}
-use Rattle.reading.proofs.read_image.Statement.{statement}
-use Rattle.reading.proofs.read_image.Tie as tie
+use Rattle.reading_words.proofs.read_image.Statement.{statement}
+use Rattle.reading_words.proofs.read_image.Tie as tie
 
 pub read-image-spec : {M : Type 1} → statement M
 unfolding readImage

@@ -1,8 +1,8 @@
 -- `read_column` meets its contract: the last column is told by the count. Assumes nothing.
 use borrow.Author.Tests.{lt-ltb, le-ltb}
 use Rattle.paper.specs.Reading.{readColumn}
-use Rattle.reading.proofs.read_column.Statement.{statement}
-use Rattle.reading.proofs.read_column.Tie as tie
+use Rattle.reading_define.proofs.read_column.Statement.{statement}
+use Rattle.reading_define.proofs.read_column.Tie as tie
 
 pub read-column-spec : {M : Type 1} → statement M
 unfolding readColumn

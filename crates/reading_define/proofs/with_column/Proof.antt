@@ -6,8 +6,8 @@ use lib.Dec.{eqb}
 use native.Mathlib.Omega.{arith}
 use borrow.Author.Tests.{eq-eqb, ne-eqb}
 use Rattle.paper.specs.Reading.{withColumn}
-use Rattle.reading.proofs.with_column.Statement.{statement}
-use Rattle.reading.proofs.with_column.Tie as tie
+use Rattle.reading_define.proofs.with_column.Statement.{statement}
+use Rattle.reading_define.proofs.with_column.Tie as tie
 
 -- of seven places the one that is none of the first six
 seventh : (n : ℕ) → n < 7 → (n ≡ 0 → ⊥) → (n ≡ 1 → ⊥) → (n ≡ 2 → ⊥) → (n ≡ 3 → ⊥) → (n ≡ 4 → ⊥) → (n ≡ 5 → ⊥) → eqb n 6 ≡ true

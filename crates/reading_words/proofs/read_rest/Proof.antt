@@ -2,8 +2,8 @@
 use native.Mathlib.Omega.{arith}
 use borrow.Author.Tests.{le-leb, lt-leb}
 use Rattle.paper.specs.Reading.{readRest}
-use Rattle.reading.proofs.read_rest.Statement.{statement}
-use Rattle.reading.proofs.read_rest.Tie as tie
+use Rattle.reading_words.proofs.read_rest.Statement.{statement}
+use Rattle.reading_words.proofs.read_rest.Tie as tie
 
 pub read-rest-spec : {M : Type 1} → statement M
 unfolding readRest

@@ -1,7 +1,7 @@
 -- `read_word` meets its contract: an arm for each parameter that is awaited. Assumes nothing.
 use Rattle.paper.specs.Reading.{readWord}
-use Rattle.reading.proofs.read_word.Statement.{statement}
-use Rattle.reading.proofs.read_word.Tie as tie
+use Rattle.reading_words.proofs.read_word.Statement.{statement}
+use Rattle.reading_words.proofs.read_word.Tie as tie
 
 pub read-word-spec : {M : Type 1} → statement M
 unfolding readWord

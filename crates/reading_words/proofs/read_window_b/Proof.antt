@@ -1,8 +1,8 @@
 -- `read_window_b` meets its contract. Assumes nothing.
 use borrow.Author.Tests.{eq-eqb, ne-eqb}
 use Rattle.paper.specs.Reading.{readWindowB}
-use Rattle.reading.proofs.read_window_b.Statement.{statement}
-use Rattle.reading.proofs.read_window_b.Tie as tie
+use Rattle.reading_words.proofs.read_window_b.Statement.{statement}
+use Rattle.reading_words.proofs.read_window_b.Tie as tie
 
 pub read-window-b-spec : {M : Type 1} → statement M
 unfolding readWindowB
