@@ -1,7 +1,7 @@
 -- `word_ok` meets its contract: an arm for each parameter that is awaited. Assumes nothing.
 use Rattle.paper.specs.Bounds.{wordOk}
-use Rattle.accept_half.proofs.word_ok.Statement.{statement}
-use Rattle.accept_half.proofs.word_ok.Tie as tie
+use Rattle.accept_words.proofs.word_ok.Statement.{statement}
+use Rattle.accept_words.proofs.word_ok.Tie as tie
 
 pub word-ok-spec : {M : Type 1} → statement M
 unfolding wordOk

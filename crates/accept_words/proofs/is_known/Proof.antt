@@ -1,7 +1,7 @@
 -- `is_known` meets its contract: an arm for each setting. Assumes nothing.
 use Rattle.paper.specs.Reading.{isKnown}
-use Rattle.accept_half.proofs.is_known.Statement.{statement}
-use Rattle.accept_half.proofs.is_known.Tie as tie
+use Rattle.accept_words.proofs.is_known.Statement.{statement}
+use Rattle.accept_words.proofs.is_known.Tie as tie
 
 pub is-known-spec : {M : Type 1} → statement M
 unfolding isKnown
