@@ -1,4 +1,4 @@
--- `accept_store::all_stored` meets its contract. The loop's invariant: the codes so far are stored. Assumes nothing.
+-- `accept_note::all_stored` meets its contract. The loop's invariant: the codes so far are stored. Assumes nothing.
 use mathlib.Core.Path.{_≡_, refl, sym, _∙_}
 use mathlib.Core.List.{List}
 use mathlib.Core.Bool.{Bool, true}
@@ -8,8 +8,8 @@ use borrow.Author.Tests.{not-true, not-false}
 use Rattle.paper.specs.Downloads.{isStored}
 use Rattle.paper.specs.Bounds.{allBelow, allStored}
 use Rattle.laws_downloads.proofs.Tests.{below-not, below-next, below-end}
-use Rattle.accept_store.proofs.all_stored.Statement.{statement}
-use Rattle.accept_store.proofs.all_stored.Tie as tie
+use Rattle.accept_note.proofs.all_stored.Statement.{statement}
+use Rattle.accept_note.proofs.all_stored.Tie as tie
 
 abbrev storedFrom : List ℕ → ℕ → ℕ → Bool
 storedFrom ds first k = isStored ds (first + k)

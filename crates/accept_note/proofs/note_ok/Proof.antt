@@ -1,7 +1,7 @@
--- `accept_store::note_ok` meets its contract. Assumes nothing.
+-- `accept_note::note_ok` meets its contract. Assumes nothing.
 use Rattle.paper.specs.Bounds.{noteOk}
-use Rattle.accept_store.proofs.note_ok.Statement.{statement}
-use Rattle.accept_store.proofs.note_ok.Tie as tie
+use Rattle.accept_note.proofs.note_ok.Statement.{statement}
+use Rattle.accept_note.proofs.note_ok.Tie as tie
 
 returns : tie.Need-returns
 unfolding noteOk

@@ -1,10 +1,10 @@
--- `accept_store::half_note_ok` meets its contract: what the `_` arm takes has no note. Assumes nothing.
+-- `accept_note::half_note_ok` meets its contract: what the `_` arm takes has no note. Assumes nothing.
 use mathlib.Core.List.{[], _∷_}
 use mathlib.Core.Path.{refl}
 use Rattle.paper.specs.Bounds.{halfNoteOk}
-use Rattle.accept_store.proofs.Halves.{noteless}
-use Rattle.accept_store.proofs.half_note_ok.Statement.{statement}
-use Rattle.accept_store.proofs.half_note_ok.Tie as tie
+use Rattle.accept_note.proofs.Halves.{noteless}
+use Rattle.accept_note.proofs.half_note_ok.Statement.{statement}
+use Rattle.accept_note.proofs.half_note_ok.Tie as tie
 
 returns : tie.Need-returns
 unfolding halfNoteOk

@@ -1,7 +1,7 @@
--- `accept_store::define_ok` meets its contract. Assumes nothing.
+-- `accept_note::define_ok` meets its contract. Assumes nothing.
 use Rattle.paper.specs.Bounds.{defineOk}
-use Rattle.accept_store.proofs.define_ok.Statement.{statement}
-use Rattle.accept_store.proofs.define_ok.Tie as tie
+use Rattle.accept_note.proofs.define_ok.Statement.{statement}
+use Rattle.accept_note.proofs.define_ok.Tie as tie
 
 pub define-ok-spec : {M : Type 1} → statement M
 unfolding defineOk
