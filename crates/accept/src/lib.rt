@@ -1,6 +1,7 @@
 // Whether a state record is accepted: number 8 of document 01, over every field of it and over its downloads.
 // It tests the record alone: memory, font and glass are not in it.
-// It uses accept_settings, accept_windows, accept_half and accept_store for those parts; the hold's and the spans' tests stand here.
+// It uses accept_settings, accept_windows, accept_half, accept_store and accept_note for those parts; the hold's and the spans' tests
+// stand here.
 ghost use mathlib.Core.Path.{_≡_};
 ghost use Rattle.paper.specs.Bounds.{holdOk, spanOk, spansOk, stateOk, accepted};
 use paper::Hold;
@@ -68,5 +69,5 @@ pub fn is_accepted(g: Module, s: State, ds: &[u8]) -> bool
 {
     let hold = s.hold;
     let half = s.half;
-    state_ok(g, s) & (accept_store::store_ok(ds) & accept_store::define_ok(ds, hold, half))
+    state_ok(g, s) & (accept_store::store_ok(ds) & accept_note::define_ok(ds, hold, half))
 }

@@ -1,3 +1,2 @@
--- Laws over which the functions' proofs stand.
+-- The law over which the functions' proofs stand.
 pub mod Places
-pub mod Halves

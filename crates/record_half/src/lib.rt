@@ -1,8 +1,7 @@
 // The record, its half-read part: what is half read, laid flat as a case's number and its parameters, and back. No case of an enum
 // crosses to C.
-// It uses the paper alone; docs/RECORD.md has the numbers.
+// It uses the paper, and reading_define for columns of which none has come; docs/RECORD.md has the numbers.
 ghost use mathlib.Core.Path.{_≡_};
-ghost use Rattle.paper.specs.Reading.{noColumns};
 ghost use Rattle.record_half.specs.Slots.{words, bytes, keyNumber, keyOf, wordSlots, wordOf, noteNumber, batchSlots, halfSlots, halfOf};
 use paper::Batch;
 use paper::Columns;
@@ -23,23 +22,6 @@ pub struct Slots {
     pub r: u16,
     pub s: u16,
     pub columns: Columns,
-}
-
-// No columns of a download.
-fn no_columns() -> Columns
-    ensures { λ r. ⌜ r ≡ noColumns 0 ⌝ }
-{
-    Columns {
-        width: 0,
-        come: 0,
-        c0: 0,
-        c1: 0,
-        c2: 0,
-        c3: 0,
-        c4: 0,
-        c5: 0,
-        c6: 0,
-    }
 }
 
 // A case with bytes alone.
@@ -63,7 +45,7 @@ fn wide(case: u8, a: u8, b: u8, c: u8, p: u16, q: u16, r: u16, s: u16) -> Slots
         q,
         r,
         s,
-        columns: no_columns(),
+        columns: reading_define::no_columns(0),
     }
 }
 
@@ -199,7 +181,12 @@ pub fn half_slots(half: Half) -> Slots
         Half::DownloadA => narrow(10, 0, 0, 0),
         Half::DownloadFrom => narrow(11, 0, 0, 0),
         Half::DownloadTo { from } => narrow(12, from, 0, 0),
-        Half::GlyphWidth { batch, dropped } => batch_slots(13, batch, dropped, no_columns()),
+        Half::GlyphWidth { batch, dropped } => batch_slots(
+            13,
+            batch,
+            dropped,
+            reading_define::no_columns(0),
+        ),
         Half::GlyphByte {
             batch,
             dropped,

@@ -1,0 +1,2 @@
+-- The law over which the functions' proofs stand.
+pub mod Halves
