@@ -1,8 +1,8 @@
--- `runs::drawn_to` meets its contract. Assumes nothing.
+-- `runs_line::drawn_to` meets its contract. Assumes nothing.
 use borrow.Author.Needs.{needs}
 use native.Mathlib.Omega.{arith}
-use Rattle.runs.proofs.drawn_to.Statement.{statement}
-use Rattle.runs.proofs.drawn_to.Tie as tie
+use Rattle.runs_line.proofs.drawn_to.Statement.{statement}
+use Rattle.runs_line.proofs.drawn_to.Tie as tie
 
 returns : tie.Need-returns
 returns c = rw (c .place .ensures, c .before .marked .ensures)

@@ -1,4 +1,4 @@
--- `runs::draw_code` meets its contract, by whether there are downloads. Assumes nothing.
+-- `runs_line::draw_code` meets its contract, by whether there are downloads. Assumes nothing.
 use mathlib.Core.Path.{sym, ap₂, _∙_}
 use Prim.Native.Nat.{ℕ}
 use native.Mathlib.Omega.{arith}
@@ -8,8 +8,8 @@ use Rattle.paper.specs.Downloads.{faces}
 use Rattle.glyphs.proofs.Parts.{font-columns, font-alone}
 use Rattle.cells.specs.Drawn.{drawn}
 use Rattle.text.proofs.Steps.{drawn-from}
-use Rattle.runs.proofs.draw_code.Statement.{statement}
-use Rattle.runs.proofs.draw_code.Tie as tie
+use Rattle.runs_line.proofs.draw_code.Statement.{statement}
+use Rattle.runs_line.proofs.draw_code.Tie as tie
 
 draw-whole-requires : tie.Need-draw-whole-requires
 draw-whole-requires c κs =

@@ -1,4 +1,4 @@
--- `runs::line` meets its contract. The loop's invariant: the line is drawn as far as the next cell, and what is left gives what
+-- `runs_line::line` meets its contract. The loop's invariant: the line is drawn as far as the next cell, and what is left gives what
 -- the whole gives. Assumes nothing.
 use mathlib.Core.Path.{_≡_, refl, sym, ap, _∙_}
 use Prim.Native.Nat.{_+_, _*_, _-_, _<_, _≤_}
@@ -9,9 +9,9 @@ use Rattle.paper.specs.declared.Rect.{Rect}
 use Rattle.paper.specs.Downloads.{faces}
 use Rattle.paper.specs.Strokes.{rectAt}
 use Rattle.text.proofs.Steps.{sized-room}
-use Rattle.runs.proofs.Running.{Lining, lining-begin, room-for, lining-next, lining-end}
-use Rattle.runs.proofs.line.Statement.{statement}
-use Rattle.runs.proofs.line.Tie as tie
+use Rattle.runs_line.proofs.Lining.{Lining, lining-begin, room-for, lining-next, lining-end}
+use Rattle.runs_line.proofs.line.Statement.{statement}
+use Rattle.runs_line.proofs.line.Tie as tie
 
 abbrev Inv-loop : tie.InvT-loop
 Inv-loop g mem₀ font own p cell piece from end c r₀ i₀ mem r i =

@@ -1,9 +1,9 @@
--- `runs::goes_on` meets its contract: past its end a piece has no character. Assumes nothing.
+-- `runs_line::goes_on` meets its contract: past its end a piece has no character. Assumes nothing.
 use native.Mathlib.Omega.{arith}
 use borrow.Author.Needs.{needs}
 use lib.ListN.{List·getD-eq-default}
-use Rattle.runs.proofs.goes_on.Statement.{statement}
-use Rattle.runs.proofs.goes_on.Tie as tie
+use Rattle.runs_line.proofs.goes_on.Statement.{statement}
+use Rattle.runs_line.proofs.goes_on.Tie as tie
 
 returns-2 : tie.Need-returns-2
 returns-2 c =
