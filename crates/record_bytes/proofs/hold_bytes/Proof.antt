@@ -1,7 +1,7 @@
 -- `hold_bytes` meets its contract: an arm for a window that is held, and one for none. Assumes nothing.
-use Rattle.record_write.specs.Bytes.{holdBytes}
-use Rattle.record_write.proofs.hold_bytes.Statement.{statement}
-use Rattle.record_write.proofs.hold_bytes.Tie as tie
+use Rattle.record_bytes.specs.Bytes.{holdBytes}
+use Rattle.record_bytes.proofs.hold_bytes.Statement.{statement}
+use Rattle.record_bytes.proofs.hold_bytes.Tie as tie
 
 pub hold-bytes-spec : {M : Type 1} → statement M
 unfolding holdBytes

@@ -2,9 +2,9 @@
 use borrow.Author.Needs.{needs}
 use mathlib.Core.Path.{ap, _∙_}
 use Rattle.record_half.specs.Slots.{halfSlots}
-use Rattle.record_write.specs.Bytes.{slotBytes}
-use Rattle.record_write.proofs.half_bytes.Statement.{statement}
-use Rattle.record_write.proofs.half_bytes.Tie as tie
+use Rattle.record_bytes.specs.Bytes.{slotBytes}
+use Rattle.record_bytes.proofs.half_bytes.Statement.{statement}
+use Rattle.record_bytes.proofs.half_bytes.Tie as tie
 
 returns : tie.Need-returns
 unfolding halfSlots
