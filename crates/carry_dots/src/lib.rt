@@ -1,6 +1,6 @@
 // Carrying out what writes: the commands that write on memory, and an image's byte, each with the answers 15 and 16 that it can have.
 // It may use carry_state for the answer's form, state and state_views for the state's parts, moves, moves_tab, text, cells, dots and
-// spans for what is written, and downloads for those in force and for their end.
+// spans for what is written, downloads for those in force and downloads_write for their end.
 // Each contract says that what was done is what the paper's meaning says.
 use carry_state::Done;
 use glyphs::Cell;
@@ -118,7 +118,7 @@ pub fn initialise(g: Module, mem: &mut [u8], store: &mut [u8], s: State, held: b
     }
     let before = s.spans;
     let spans = dots::erase(g, mem, before);
-    downloads::erase_all(store);
+    downloads_write::erase_all(store);
     let t = state::initial_state(g);
     carry_state::ends(State { spans, ..t }, Outcome::Carried)
 }

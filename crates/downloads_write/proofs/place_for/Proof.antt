@@ -1,8 +1,8 @@
--- `downloads::place_for` meets its contract. Assumes nothing.
+-- `downloads_write::place_for` meets its contract. Assumes nothing.
 use borrow.Author.Tests.{lt-ltb, le-ltb}
 use Rattle.paper.specs.Downloads.{placeFor}
-use Rattle.downloads.proofs.place_for.Statement.{statement}
-use Rattle.downloads.proofs.place_for.Tie as tie
+use Rattle.downloads_write.proofs.place_for.Statement.{statement}
+use Rattle.downloads_write.proofs.place_for.Tie as tie
 
 returns : tie.Need-returns
 unfolding placeFor

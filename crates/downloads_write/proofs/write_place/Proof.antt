@@ -1,11 +1,11 @@
--- `downloads::write_place` meets its contract. The loop's invariant: the first r bytes are written. Assumes nothing.
+-- `downloads_write::write_place` meets its contract. The loop's invariant: the first r bytes are written. Assumes nothing.
 use mathlib.Core.Path.{_≡_}
 use Prim.Native.Nat.{_+_, _≤_, _-_}
 use native.Mathlib.Omega.{arith}
 use lib.ListN.{length}
-use Rattle.downloads.proofs.Turns.{partly, partly-starts, partly-length, partly-on, partly-ends}
-use Rattle.downloads.proofs.write_place.Statement.{statement}
-use Rattle.downloads.proofs.write_place.Tie as tie
+use Rattle.downloads_write.proofs.Turns.{partly, partly-starts, partly-length, partly-on, partly-ends}
+use Rattle.downloads_write.proofs.write_place.Statement.{statement}
+use Rattle.downloads_write.proofs.write_place.Tie as tie
 
 abbrev Inv-loop : tie.InvT-loop
 Inv-loop ds₀ k bytes from count r₀ ds r = (r ≤ count) × (length ds ≡ length ds₀) × (ds ≡ partly k bytes r ds₀)

@@ -1,10 +1,10 @@
--- `downloads::erase_all` meets its contract. The loop's invariant: the bytes so far are 0. Assumes nothing.
+-- `downloads_write::erase_all` meets its contract. The loop's invariant: the bytes so far are 0. Assumes nothing.
 use Prim.Native.Nat.{_≤_, _-_}
 use native.Mathlib.Omega.{arith}
 use lib.ListN.{length}
-use Rattle.downloads.proofs.Turns.{Zeroed, zeroed-starts, zeroed-on, zeroed-ends}
-use Rattle.downloads.proofs.erase_all.Statement.{statement}
-use Rattle.downloads.proofs.erase_all.Tie as tie
+use Rattle.downloads_write.proofs.Turns.{Zeroed, zeroed-starts, zeroed-on, zeroed-ends}
+use Rattle.downloads_write.proofs.erase_all.Statement.{statement}
+use Rattle.downloads_write.proofs.erase_all.Tie as tie
 
 abbrev Inv-loop : tie.InvT-loop
 Inv-loop ds₀ a₀ a-end ds a = (a ≤ length ds₀) × Zeroed ds₀ ds a

@@ -1,10 +1,10 @@
--- `downloads::erase` meets its contract. Assumes nothing.
+-- `downloads_write::erase` meets its contract. Assumes nothing.
 use borrow.Author.Needs.{needs}
 use mathlib.Core.Path.{_∙_}
 use Rattle.paper.specs.Downloads.{erased}
 use Rattle.laws_downloads.proofs.Places.{place-le}
-use Rattle.downloads.proofs.erase.Statement.{statement}
-use Rattle.downloads.proofs.erase.Tie as tie
+use Rattle.downloads_write.proofs.erase.Statement.{statement}
+use Rattle.downloads_write.proofs.erase.Tie as tie
 
 write-place-requires : tie.Need-write-place-requires
 write-place-requires c κs = rw (c .before .place .ensures) (place-le _ _)

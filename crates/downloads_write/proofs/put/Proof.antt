@@ -1,10 +1,10 @@
--- `downloads::put` meets its contract. Assumes nothing.
+-- `downloads_write::put` meets its contract. Assumes nothing.
 use borrow.Author.Needs.{needs}
 use mathlib.Core.Path.{_∙_}
 use Rattle.paper.specs.Downloads.{putIn}
 use Rattle.laws_downloads.proofs.Kept.{for-places}
-use Rattle.downloads.proofs.put.Statement.{statement}
-use Rattle.downloads.proofs.put.Tie as tie
+use Rattle.downloads_write.proofs.put.Statement.{statement}
+use Rattle.downloads_write.proofs.put.Tie as tie
 
 write-place-requires : tie.Need-write-place-requires
 write-place-requires c κs = rw (c .before .before .place-for .ensures) (for-places _ _)
