@@ -1,12 +1,12 @@
--- `glyphs::placing` meets its contract, by its test. Assumes nothing.
+-- `glyphs_columns::placing` meets its contract, by its test. Assumes nothing.
 use mathlib.Core.Path.{_≡_}
 use mathlib.Core.Bool.{Bool}
 use Prim.Native.Nat.{ℕ, _≤_}
-use Rattle.glyphs.specs.declared.Lift.{Lift}
-use Rattle.glyphs.specs.Columns.{placingOf}
-use Rattle.glyphs.proofs.Frames.{placing-small}
-use Rattle.glyphs.proofs.placing.Statement.{statement}
-use Rattle.glyphs.proofs.placing.Tie as tie
+use Rattle.glyphs_columns.specs.declared.Lift.{Lift}
+use Rattle.glyphs_columns.specs.Columns.{placingOf}
+use Rattle.glyphs_columns.proofs.Frames.{placing-small}
+use Rattle.glyphs_columns.proofs.placing.Statement.{statement}
+use Rattle.glyphs_columns.proofs.placing.Tie as tie
 
 -- what is said of it beside its value
 bounded : (f : Bool) (row : ℕ) (p : Lift) → p ≡ placingOf f row → (p ≡ placingOf f row) × (p .down ≤ 1) × (p .up ≤ p .down)

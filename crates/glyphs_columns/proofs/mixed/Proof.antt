@@ -1,7 +1,7 @@
--- `glyphs::mixed` meets its contract, by its tests. Assumes nothing.
+-- `glyphs_columns::mixed` meets its contract, by its tests. Assumes nothing.
 use borrow.Author.Tests.{eq-eqb, ne-eqb}
-use Rattle.glyphs.proofs.mixed.Statement.{statement}
-use Rattle.glyphs.proofs.mixed.Tie as tie
+use Rattle.glyphs_columns.proofs.mixed.Statement.{statement}
+use Rattle.glyphs_columns.proofs.mixed.Tie as tie
 
 returns : tie.Need-returns
 returns c = simp (eq-eqb _ _ (c .if1 .taken))

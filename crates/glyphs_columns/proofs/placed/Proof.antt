@@ -1,10 +1,10 @@
--- `glyphs::placed` meets its contract: nothing falls off above. Assumes nothing.
+-- `glyphs_columns::placed` meets its contract: nothing falls off above. Assumes nothing.
 use borrow.Author.Needs.{needs}
 use native.Mathlib.Nat.{mod-eq-of-lt}
 use native.Mathlib.Omega.{arith}
-use Rattle.glyphs.proofs.Frames.{lift-lt}
-use Rattle.glyphs.proofs.placed.Statement.{statement}
-use Rattle.glyphs.proofs.placed.Tie as tie
+use Rattle.glyphs_columns.proofs.Frames.{lift-lt}
+use Rattle.glyphs_columns.proofs.placed.Statement.{statement}
+use Rattle.glyphs_columns.proofs.placed.Tie as tie
 
 returns : tie.Need-returns
 returns c =

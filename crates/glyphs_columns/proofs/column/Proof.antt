@@ -1,12 +1,12 @@
--- `glyphs::column` meets its contract: its calls, one after the other. Assumes nothing.
+-- `glyphs_columns::column` meets its contract: its calls, one after the other. Assumes nothing.
 use mathlib.Core.Path.{ap}
 use Prim.Native.Nat.{ℕ}
 use borrow.Author.Needs.{needs}
 use Rattle.laws_bytes.specs.Bytes.{glyphColumn}
-use Rattle.glyphs.specs.Columns.{tallOf, inkOf, inkColumn}
-use Rattle.glyphs.proofs.Frames.{placed-byte}
-use Rattle.glyphs.proofs.column.Statement.{statement}
-use Rattle.glyphs.proofs.column.Tie as tie
+use Rattle.glyphs_columns.specs.Columns.{tallOf, inkOf, inkColumn}
+use Rattle.glyphs_columns.proofs.Frames.{placed-byte}
+use Rattle.glyphs_columns.proofs.column.Statement.{statement}
+use Rattle.glyphs_columns.proofs.column.Tie as tie
 
 returns : tie.Need-returns
 unfolding inkColumn

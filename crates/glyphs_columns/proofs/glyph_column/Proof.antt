@@ -1,11 +1,11 @@
--- `glyphs::glyph_column` meets its contract, by its tests. Assumes nothing.
+-- `glyphs_columns::glyph_column` meets its contract, by its tests. Assumes nothing.
 use Prim.Native.Nat.{_+_}
 use native.Mathlib.Omega.{arith}
 use lib.ListN.{length}
 use borrow.Author.Needs.{needs}
 use borrow.Author.Tests.{le-ltb, lt-ltb, le-leb, lt-leb}
-use Rattle.glyphs.proofs.glyph_column.Statement.{statement}
-use Rattle.glyphs.proofs.glyph_column.Tie as tie
+use Rattle.glyphs_columns.proofs.glyph_column.Statement.{statement}
+use Rattle.glyphs_columns.proofs.glyph_column.Tie as tie
 
 returns : tie.Need-returns
 returns c = rw (← c .before .blanks-left .ensures .0, lt-leb _ _ (c .if1 .taken))

@@ -1,4 +1,4 @@
--- Which glyphs are framed, their blanks, and their dots on a row. Assumes nothing.
+-- Which glyphs are framed, and their dots on a row. Assumes nothing.
 use mathlib.Core.Path.{_≡_, refl}
 use mathlib.Core.Bool.{Bool, true, false, cond, _&&_}
 use mathlib.Core.List.{List}
@@ -9,18 +9,9 @@ use lib.ListN.{length}
 use borrow.Author.Tests.{eq-eqb, ne-eqb}
 use Rattle.paper.specs.declared.Module.{Module}
 use Rattle.paper.specs.Panel.{isFramed}
-use Rattle.paper.specs.Cells.{blankColumns}
 use Rattle.laws_bytes.specs.Bytes.{placedByte}
-use Rattle.glyphs.specs.declared.Lift.{Lift}
-use Rattle.glyphs.specs.Columns.{placingOf}
-
--- a frame adds two columns at most
-pub columns-few : (g : Module) (w : ℕ) → blankColumns g w ≤ 2
-columns-few g w = go (g .framed) (eqb w 0) where
-  go : (f t : Bool) → cond f (cond t 1 2) 0 ≤ 2
-  go true true = omega arith
-  go true false = omega arith
-  go false t = omega arith
+use Rattle.glyphs_columns.specs.declared.Lift.{Lift}
+use Rattle.glyphs_columns.specs.Columns.{placingOf}
 
 -- a glyph with as many columns as the font's have is framed where they are, and no other is
 module _ (g : Module) (cols : List ℕ) where

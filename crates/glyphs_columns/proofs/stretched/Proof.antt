@@ -1,8 +1,8 @@
--- `glyphs::stretched` meets its contract, by its test. Assumes nothing.
+-- `glyphs_columns::stretched` meets its contract, by its test. Assumes nothing.
 use borrow.Author.Needs.{needs}
 use borrow.Author.Tests.{eq-eqb, ne-eqb}
-use Rattle.glyphs.proofs.stretched.Statement.{statement}
-use Rattle.glyphs.proofs.stretched.Tie as tie
+use Rattle.glyphs_columns.proofs.stretched.Statement.{statement}
+use Rattle.glyphs_columns.proofs.stretched.Tie as tie
 
 returns : tie.Need-returns
 returns c = simp (eq-eqb _ _ (c .if1 .taken))

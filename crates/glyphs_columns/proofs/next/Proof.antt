@@ -1,9 +1,9 @@
--- `glyphs::next` meets its contract, by its test. Assumes nothing.
+-- `glyphs_columns::next` meets its contract, by its test. Assumes nothing.
 use borrow.Author.Needs.{needs}
 use borrow.Author.Tests.{eq-eqb, ne-eqb}
-use Rattle.glyphs.specs.Columns.{nextOf}
-use Rattle.glyphs.proofs.next.Statement.{statement}
-use Rattle.glyphs.proofs.next.Tie as tie
+use Rattle.glyphs_columns.specs.Columns.{nextOf}
+use Rattle.glyphs_columns.proofs.next.Statement.{statement}
+use Rattle.glyphs_columns.proofs.next.Tie as tie
 
 returns : tie.Need-returns
 unfolding nextOf

@@ -7,9 +7,9 @@ use Rattle.paper.specs.declared.Module.{Module}
 use Rattle.paper.specs.declared.Style.{Style}
 use Rattle.paper.specs.Cells.{blanksLeft}
 use Rattle.laws_bytes.specs.Bytes.{placedByte, glyphColumn, tallByte, reversedByte}
-use Rattle.glyphs.specs.declared.Lift.{Lift}
-use Rattle.glyphs.specs.declared.Tall.{Tall}
-use Rattle.glyphs.specs.declared.Walk.{Walk}
+use Rattle.glyphs_columns.specs.declared.Lift.{Lift}
+use Rattle.glyphs_columns.specs.declared.Tall.{Tall}
+use Rattle.glyphs_columns.specs.declared.Walk.{Walk}
 
 -- a column repeated downwards
 abbrev pub tallOf : ℕ → ℕ → Tall
