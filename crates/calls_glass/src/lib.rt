@@ -1,7 +1,7 @@
 // Start and refresh, for any usable module: what is refused, in its order, and the memory, the downloads and the glass that each
 // leaves.
-// It may use modules for the lengths, state for the initial one, accept for the state's test, dots for the memory, downloads for
-// their end and glass for what is copied to the glass.
+// It may use modules for the lengths, state for the initial one, accept for the state's test, dots for the memory,
+// downloads_write for the end of the downloads and glass for what is copied to the glass.
 use paper::Answer;
 use paper::Module;
 use paper::Refreshed;
@@ -18,7 +18,7 @@ pub fn start(g: Module, mem: &mut [u8], store: &mut [u8]) -> Answer
     requires { ⌜ Usable g × (g .rows ≡ 2) ⌝ }
     ensures { λ r. ⌜ started r (now (mem .exit)) (now (store .exit)) ≡ startCall g (now (mem .entry)) (now (store .entry)) ⌝ }
 {
-    downloads::erase_all(store);
+    downloads_write::erase_all(store);
     let t = state::initial_state(g);
     if mem.len() != modules::memory_length(g) {
         return Answer {

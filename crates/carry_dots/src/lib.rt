@@ -1,6 +1,6 @@
 // Carrying out the commands that write on memory whatever the cell, CLR and initialise; and the state's spot.
 // It may use carry_state for the answer's form, state and state_views for the state's parts, moves and dots for what is written, and
-// downloads for their end.
+// downloads_write for their end.
 // Each contract says that what was done is what the paper's meaning says.
 use carry_state::Done;
 use moves::Spot;
@@ -59,7 +59,7 @@ pub fn initialise(g: Module, mem: &mut [u8], store: &mut [u8], s: State, held: b
     }
     let before = s.spans;
     let spans = dots::erase(g, mem, before);
-    downloads::erase_all(store);
+    downloads_write::erase_all(store);
     let t = state::initial_state(g);
     carry_state::ends(State { spans, ..t }, Outcome::Carried)
 }

@@ -1,6 +1,6 @@
 // Carrying out what changes the downloads: a download that has come whole, and erase, each with the answers 15, 11, 18 and 19 that
 // it can have.
-// It may use downloads for the places, state for whether a window is held, carry_state for the answer's form.
+// It may use downloads and downloads_write for the places, state for whether a window is held, carry_state for the answer's form.
 // Each contract says that the state and the outcome are those of the paper's meaning, and the downloads those it leaves.
 use carry_state::Done;
 use paper::Batch;
@@ -28,7 +28,7 @@ fn store_one(store: &mut [u8], held: bool, code: u8, noted: bool, columns: Colum
         return noted;
     }
     let dropped = downloads::is_dropped(store, code);
-    downloads::put(store, code, columns);
+    downloads_write::put(store, code, columns);
     noted | dropped
 }
 
@@ -83,7 +83,7 @@ fn erase_one(store: &mut [u8], held: bool, a: u8, code: u8) -> Outcome
         return Outcome::OutOfDomain;
     }
     if downloads::is_stored(store, code) {
-        downloads::erase(store, code);
+        downloads_write::erase(store, code);
         return Outcome::Carried;
     }
     Outcome::NotStored

@@ -16,8 +16,8 @@ use Rattle.laws_bytes.specs.Bytes.{reversedByte, mixedByte, pennedByte}
 use Rattle.laws_bytes.proofs.Penned.{penned-dots, penned-byte}
 use Rattle.laws_memory.specs.Rectangles.{Bytes}
 use Rattle.laws_memory.proofs.Rects.{rect-none, rect-same, rect-beside, rect-below, rect-one}
-use Rattle.glyphs.specs.declared.Tall.{Tall}
-use Rattle.glyphs.specs.Columns.{atRow}
+use Rattle.glyphs_columns.specs.declared.Tall.{Tall}
+use Rattle.glyphs_columns.specs.Columns.{atRow}
 use Rattle.cells.specs.Drawn.{cellMap, imaged}
 use Rattle.cells.specs.Mixed.{mixedAt, mixedColumn}
 

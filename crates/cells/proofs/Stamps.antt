@@ -19,8 +19,8 @@ use Rattle.laws_bytes.proofs.Drawn.{cell-byte}
 use Rattle.laws_memory.specs.Rectangles.{Bytes}
 use Rattle.laws_memory.proofs.Tests.{and-parts}
 use Rattle.laws_memory.proofs.Rects.{rect-none, rect-same, rect-beside}
-use Rattle.glyphs.proofs.Frames.{framed-alike, framed-other}
-use Rattle.glyphs.specs.Columns.{plainByte, blankRight}
+use Rattle.glyphs_columns.proofs.Frames.{framed-alike, framed-other}
+use Rattle.glyphs_columns.specs.Columns.{plainByte, blankRight}
 use Rattle.cells.specs.Drawn.{drawnAs, drawn}
 use Rattle.cells.specs.Mixed.{mixedAt, unlit, inlaid}
 use Rattle.cells.proofs.Columns.{either, column-one, cell-turn, cell-end}

@@ -9,9 +9,9 @@ use borrow.Author.Tests.{eq-eqb, ne-eqb}
 use Rattle.paper.specs.declared.Style.{Style}
 use Rattle.laws_bytes.specs.Bytes.{reversedByte, cellByte}
 use Rattle.laws_memory.proofs.Tests.{eq-cases}
-use Rattle.glyphs.specs.declared.Tall.{Tall}
-use Rattle.glyphs.specs.declared.Walk.{Walk}
-use Rattle.glyphs.specs.Columns.{atRow, inkColumn, nextOf}
+use Rattle.glyphs_columns.specs.declared.Tall.{Tall}
+use Rattle.glyphs_columns.specs.declared.Walk.{Walk}
+use Rattle.glyphs_columns.specs.Columns.{atRow, inkColumn, nextOf}
 
 -- what is i past a multiple of n
 quotient : (n k i j : ℕ) → j ≡ n * k + i → i < n → j / n ≡ k

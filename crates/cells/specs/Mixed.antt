@@ -7,8 +7,8 @@ use Rattle.paper.specs.declared.Module.{Module}
 use Rattle.paper.specs.declared.Style.{Style}
 use Rattle.paper.specs.Strokes.{rectAt, rectMap}
 use Rattle.laws_bytes.specs.Bytes.{placedByte, mixedByte, pennedByte}
-use Rattle.glyphs.specs.declared.Tall.{Tall}
-use Rattle.glyphs.specs.Columns.{atRow}
+use Rattle.glyphs_columns.specs.declared.Tall.{Tall}
+use Rattle.glyphs_columns.specs.Columns.{atRow}
 
 -- a byte mixed into memory
 unfoldable pub mixedAt : Module → Style → ℕ → ℕ → ℕ → List ℕ → List ℕ

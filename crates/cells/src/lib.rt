@@ -1,9 +1,9 @@
 // Cells: what writes glyphs into memory. Mixes columns in, draws one cell, blanks one, stores one image byte.
-// It may use the paper, its laws, the dots and the glyphs, and it knows nothing of cursors and windows, nor where a glyph's columns
-// come from.
+// It may use the paper, its laws, the dots, the glyphs and their columns, and it knows nothing of cursors and windows, nor where a
+// glyph's columns come from.
 use glyphs::Cell;
-use glyphs::Tall;
-use glyphs::Walk;
+use glyphs_columns::Tall;
+use glyphs_columns::Walk;
 use paper::Module;
 use paper::Rect;
 use paper::Style;
@@ -12,7 +12,7 @@ ghost use Prim.Native.Nat.{_≤_};
 ghost use lib.ListN.{length};
 ghost use Rattle.paper.specs.Strokes.{rectAt};
 ghost use Rattle.laws_memory.specs.Rectangles.{Fits, Within};
-ghost use Rattle.glyphs.specs.Columns.{plainWidth};
+ghost use Rattle.glyphs_columns.specs.Columns.{plainWidth};
 ghost use Rattle.cells.specs.Drawn.{drawnAs, drawn, blanked, imaged};
 ghost use Rattle.cells.specs.Mixed.{mixedAt, mixedColumn, unlit, inlaid};
 
@@ -22,7 +22,7 @@ fn mix(g: Module, mem: &mut [u8], style: Style, x: usize, y: usize, v: u8)
     ensures { λ _. ⌜ now (mem .exit) ≡ mixedAt g style x y v (now (mem .entry)) ⌝ }
 {
     let a = dots::at(g, x, y);
-    mem[a] = glyphs::mixed(style, v, mem[a]);
+    mem[a] = glyphs_columns::mixed(style, v, mem[a]);
 }
 
 // Mixes a column into memory, as many rows of it as the rectangle has.
@@ -46,7 +46,7 @@ fn stamp_blank(g: Module, mem: &mut [u8], style: Style, x: usize, y: usize, coun
     ensures { λ _. ⌜ now (mem .exit) ≡ unlit g style x y count (now (mem .entry)) ⌝ }
 {
     if 0 < count {
-        mix(g, mem, style, x, y, glyphs::reversed(style, 0));
+        mix(g, mem, style, x, y, glyphs_columns::reversed(style, 0));
     }
 }
 
@@ -64,10 +64,17 @@ fn stamp_glyph(
     requires { ⌜ Within g (rectAt left top count 1) × Fits g (now mem) × (count ≤ length (now cols)) ⌝ }
     ensures { λ _. ⌜ now (mem .exit) ≡ inlaid g framed (now (cols .entry)) style left top count (now (mem .entry)) ⌝ }
 {
-    let p = glyphs::placing(framed, top);
+    let p = glyphs_columns::placing(framed, top);
     for j in 0..count {
-        let v = glyphs::placed(p, cols[j]);
-        mix(g, mem, style, left + j, top, glyphs::reversed(style, v));
+        let v = glyphs_columns::placed(p, cols[j]);
+        mix(
+            g,
+            mem,
+            style,
+            left + j,
+            top,
+            glyphs_columns::reversed(style, v),
+        );
     }
 }
 
@@ -79,11 +86,18 @@ fn stamp(g: Module, mem: &mut [u8], cols: &[u8], w: u8, style: Style, left: usiz
     ensures { λ _. ⌜ now (mem .exit) ≡ drawnAs g (g .framed) (now (cols .entry)) w style (rectAt left top (plainWidth g w) 1) (now (mem .entry)) ⌝ }
 {
     let framed = g.framed;
-    let blanks = glyphs::blanks_left(framed, w);
+    let blanks = glyphs_columns::blanks_left(framed, w);
     let last = blanks + g.glyph;
     stamp_blank(g, mem, style, left, top, blanks);
     stamp_glyph(g, mem, framed, cols, style, left + blanks, top, g.glyph);
-    stamp_blank(g, mem, style, left + last, top, glyphs::blank_right(framed));
+    stamp_blank(
+        g,
+        mem,
+        style,
+        left + last,
+        top,
+        glyphs_columns::blank_right(framed),
+    );
 }
 
 // A cell column by column, each repeated across and down.
@@ -94,12 +108,12 @@ fn walk_over(g: Module, mem: &mut [u8], framed: bool, cols: &[u8], w: u8, style:
 {
     let top = r.top;
     let mut walk = Walk {
-        column: glyphs::column(framed, cols, w, style, top, 0),
+        column: glyphs_columns::column(framed, cols, w, style, top, 0),
         index: 0,
         times: 0,
     };
     for j in 0..r.width {
-        walk = glyphs::next(framed, cols, w, style, top, walk);
+        walk = glyphs_columns::next(framed, cols, w, style, top, walk);
         let t = walk.column;
         mix_column(g, mem, style, r.left + j, top, r.height, t);
     }
@@ -115,7 +129,9 @@ pub fn draw_whole(g: Module, mem: &mut [u8], cols: &[u8], cell: Cell, left: usiz
     let w = cell.blanks;
     let style = cell.style;
     let framed = g.framed;
-    let whole = glyphs::blanks_left(framed, w) + g.glyph + glyphs::blank_right(framed);
+    let whole = glyphs_columns::blanks_left(framed, w)
+        + g.glyph
+        + glyphs_columns::blank_right(framed);
     let plain = (style.across == 1) & (style.down == 1);
     if plain & (cell.columns == whole) & (w <= 1) {
         stamp(g, mem, cols, w, style, left, top);
@@ -137,7 +153,9 @@ pub fn draw_alike(g: Module, mem: &mut [u8], cols: &[u8], w: u8, style: Style, r
     ensures { λ _. ⌜ now (mem .exit) ≡ drawn g (now (cols .entry)) w style r (now (mem .entry)) ⌝ }
 {
     let framed = g.framed;
-    let whole = glyphs::blanks_left(framed, w) + g.glyph + glyphs::blank_right(framed);
+    let whole = glyphs_columns::blanks_left(framed, w)
+        + g.glyph
+        + glyphs_columns::blank_right(framed);
     let plain = (style.across == 1) & (style.down == 1) & (r.height == 1);
     if plain & (r.width == whole) & (w <= 1) {
         stamp(g, mem, cols, w, style, r.left, r.top);
@@ -169,7 +187,7 @@ pub fn blank(g: Module, mem: &mut [u8], style: Style, r: Rect)
     requires { ⌜ Within g r × Fits g (now mem) × (r .height ≤ 2) ⌝ }
     ensures { λ _. ⌜ now (mem .exit) ≡ blanked g style r (now (mem .entry)) ⌝ }
 {
-    let v = glyphs::reversed(style, 0);
+    let v = glyphs_columns::reversed(style, 0);
     let t = Tall { upper: v, lower: v };
     for j in 0..r.width {
         mix_column(g, mem, style, r.left + j, r.top, r.height, t);
@@ -181,5 +199,5 @@ pub fn store(g: Module, mem: &mut [u8], style: Style, x: usize, y: usize, v: u8)
     requires { ⌜ Within g (rectAt x y 1 1) × Fits g (now mem) ⌝ }
     ensures { λ _. ⌜ now (mem .exit) ≡ imaged g style x y v (now (mem .entry)) ⌝ }
 {
-    mix(g, mem, style, x, y, glyphs::reversed(style, v));
+    mix(g, mem, style, x, y, glyphs_columns::reversed(style, v));
 }

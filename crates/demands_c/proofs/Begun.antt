@@ -13,7 +13,7 @@ use Rattle.laws_marked.specs.Marked.{windowOne}
 use Rattle.demands.specs.Events.{StateRecord, stateRecord}
 use Rattle.demands.specs.Demands.{windowFed, windowHeld}
 use Rattle.demands.proofs.Demands.{demand-1-start, demand-3-begun}
-use Rattle.record_write.specs.Bytes.{stateLength, recordLength}
+use Rattle.record_bytes.specs.Bytes.{stateLength, recordLength}
 use Rattle.record_write.proofs.Laid.{record-length}
 use Rattle.record_read.specs.Record.{stateIn, storeIn}
 use Rattle.face.specs.Face.{StartingC, startingC, startC, FeedingC, CallingC, callingC, holdC, RefreshingC}

@@ -21,7 +21,7 @@ use Rattle.demands.specs.Events.{stateRecord}
 use Rattle.demands.specs.Demands.{oneOf, startNumber, feedNumber, holdNumber, releaseNumber, refreshNumber}
 use Rattle.demands.proofs.Rows.{here, later, length-wrong, length-right}
 use Rattle.demands.proofs.Demands.{demand-1-start, demand-1-feed, demand-1-hold, demand-1-release, demand-1-refresh}
-use Rattle.record_write.specs.Bytes.{recordLength, recordOf}
+use Rattle.record_bytes.specs.Bytes.{recordLength, recordOf}
 use Rattle.record_read.specs.Record.{stateIn, storeIn}
 use Rattle.face.specs.Face.{recordAfter, StartingC, startC, FeedingC, feedC, CallingC, holdC, releaseC, RefreshingC, refreshC}
 use Rattle.face.proofs.Laws.{feed-stands}

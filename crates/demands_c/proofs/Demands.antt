@@ -11,7 +11,7 @@ use Rattle.paper.specs.Bounds.{accepted}
 use Rattle.paper.specs.Calls.{feedCall}
 use Rattle.demands.specs.Events.{Event, refresh, joined, play}
 use Rattle.demands.specs.Demands.{InStep, someFont, someMemory, someGlass}
-use Rattle.record_write.specs.Bytes.{recordLength}
+use Rattle.record_bytes.specs.Bytes.{recordLength}
 use Rattle.record_read.specs.Record.{stateIn, storeIn}
 use Rattle.face.specs.Face.{feedC}
 use Rattle.demands_c.specs.Plays.{playC, SamePlay}

@@ -21,7 +21,7 @@ use Rattle.demands.specs.Events.{Event, piece, refresh, joined, StateRecord, st
 use Rattle.demands.specs.Demands.{InStep, CopiedOnly}
 use Rattle.demands.proofs.Events.{rested, fed-first}
 use Rattle.demands.proofs.Demands.{demand-3}
-use Rattle.record_write.specs.Bytes.{stateLength, recordLength}
+use Rattle.record_bytes.specs.Bytes.{stateLength, recordLength}
 use Rattle.record_write.proofs.Laid.{record-length}
 use Rattle.record_read.specs.Record.{stateIn, storeIn}
 use Rattle.face.specs.Face.{recordAfter, FeedingC, feedingC, feedC, RefreshingC, refreshingC, refreshC}

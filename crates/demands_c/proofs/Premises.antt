@@ -17,7 +17,7 @@ use Rattle.laws_state.proofs.Records.{accepted-parts}
 use Rattle.laws_state.proofs.Sized.{start-sized}
 use Rattle.demands.specs.Demands.{someMemory, someDownloads}
 use Rattle.demands.proofs.Demands.{demand-1-start}
-use Rattle.record_write.specs.Bytes.{recordLength, encoded, recordOf}
+use Rattle.record_bytes.specs.Bytes.{recordLength, encoded, recordOf}
 use Rattle.record_write.proofs.Laid.{record-length}
 use Rattle.record_parts.specs.Parts.{settingsAt}
 use Rattle.record_read.specs.Record.{stateIn, storeIn}

@@ -20,7 +20,7 @@ use Rattle.paper.specs.Bounds.{windowsOk, holdOk, spanOk, spansOk, stateOk, acc
 use Rattle.laws_downloads.proofs.Stored.{store-length}
 use Rattle.laws_state.proofs.Parts.{parts, whole}
 use Rattle.laws_state.proofs.Records.{accepted-parts, accepted-whole}
-use Rattle.record_write.specs.Bytes.{recordLength, windowsBytes, tailBytes, encoded, recordOf}
+use Rattle.record_bytes.specs.Bytes.{recordLength, windowsBytes, tailBytes, encoded, recordOf}
 use Rattle.record_write.proofs.Laid.{record-length}
 use Rattle.record_read.specs.Record.{stateOf, stateIn, storeIn}
 use Rattle.record_read.proofs.Back.{read-back, state-part, store-back, accepted-record, other-bytes}

@@ -22,7 +22,7 @@ use Rattle.laws_marked.specs.Marked.{windowOne}
 use Rattle.laws_state.specs.Guest.{Guest, OnlyInside}
 use Rattle.demands.specs.Events.{Event, refresh, stateRecord, spansSince, owed, visible}
 use Rattle.demands.specs.Demands.{oneOf, InStep, RefreshedAt}
-use Rattle.record_write.specs.Bytes.{recordLength, recordOf}
+use Rattle.record_bytes.specs.Bytes.{recordLength, recordOf}
 use Rattle.record_read.specs.Record.{stateIn, storeIn}
 use Rattle.face.specs.Face.{startC, FeedingC, feedC, holdC, releaseC, RefreshingC, refreshC}
 use Rattle.face.proofs.Laws.{NoState}

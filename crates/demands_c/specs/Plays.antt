@@ -8,7 +8,7 @@ use Rattle.paper.specs.declared.Refusal.{Refusal}
 use Rattle.paper.specs.Panel.{panel}
 use Rattle.paper.specs.Numbers.{refusalNumber}
 use Rattle.demands.specs.Events.{Event, piece, refresh, StateRecord, stateRecord, Play, resting, fedThen, refreshedThen}
-use Rattle.record_write.specs.Bytes.{recordLength}
+use Rattle.record_bytes.specs.Bytes.{recordLength}
 use Rattle.record_read.specs.Record.{stateIn, storeIn}
 use Rattle.face.specs.Face.{feedC, refreshC}
 

@@ -22,7 +22,7 @@ use Rattle.paper.specs.Calls as paper
 use Rattle.paper.specs.Calls.{isNot, isAccepted, startCall, Feeding, feedCall, holdCall, releaseCall, Refreshing, emptied, refreshRefusal, refreshCall}
 use Rattle.laws_state.specs.Told as told
 use Rattle.laws_state.proofs.Tests.{by-cond}
-use Rattle.record_write.specs.Bytes.{stateLength, recordLength, spansInto, encoded, recordOf}
+use Rattle.record_bytes.specs.Bytes.{stateLength, recordLength, spansInto, encoded, recordOf}
 use Rattle.record_write.proofs.Laid.{spans-into}
 use Rattle.record_read.specs.Record.{stateIn, storeIn}
 use Rattle.record_read.proofs.Back.{accepted-record, state-part}

@@ -17,7 +17,7 @@ use Rattle.paper.specs.Bounds.{accepted}
 use Rattle.paper.specs.Calls.{isAccepted, startCall, feedRefusal, feedCall, holdRefusal, holdCall, releaseRefusal, releaseCall, refreshRefusal, refreshCall}
 use Rattle.laws_state.specs.Sized.{Sized}
 use Rattle.laws_state.proofs.Sized.{start-sized, feed-sized, hold-sized, release-sized, refresh-sized}
-use Rattle.record_write.specs.Bytes.{stateLength, recordLength, recordOf}
+use Rattle.record_bytes.specs.Bytes.{stateLength, recordLength, recordOf}
 use Rattle.record_read.specs.Record.{stateIn, storeIn}
 use Rattle.record_read.proofs.Back.{record-sized, state-back, store-back, other-bytes}
 use Rattle.face.specs.Face.{recordAfter, startC, fed, feeding, feedC, calling, holdC, releaseC, moved, refreshing, refreshC}

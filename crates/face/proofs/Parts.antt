@@ -6,7 +6,7 @@ use mathlib.Core.List.{List, _++_, append-nil}
 use lib.ListN.{length, take, length-drop, drop-of-length-le}
 use lib.Seq.{length-take-le, take-all, drop-at}
 use borrow.Rule.Slice.PartMut.{midOf, putMid, take-put}
-use Rattle.record_write.specs.Bytes.{stateLength, recordLength}
+use Rattle.record_bytes.specs.Bytes.{stateLength, recordLength}
 use Rattle.record_read.specs.Record.{storeIn}
 
 -- the record with these in the downloads' place

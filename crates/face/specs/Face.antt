@@ -13,7 +13,7 @@ use Rattle.paper.specs.declared.Span.{Span}
 use Rattle.paper.specs.declared.State.{State}
 use Rattle.paper.specs.Numbers.{refusalNumber, outcomeNumber}
 use Rattle.paper.specs.Calls.{isNot, Starting, startCall, Feeding, feedCall, holdCall, releaseCall, Refreshing, refreshCall}
-use Rattle.record_write.specs.Bytes.{stateLength, recordLength, spansInto, recordOf}
+use Rattle.record_bytes.specs.Bytes.{stateLength, recordLength, spansInto, recordOf}
 use Rattle.record_read.specs.Record.{stateIn, storeIn}
 use Rattle.face.specs.declared.PanelFed.{PanelFed}
 use Rattle.face.specs.declared.PanelRefreshed.{PanelRefreshed}

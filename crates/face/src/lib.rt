@@ -1,11 +1,11 @@
 // What the calls from C share, for any module: the answers, and the record that a call leaves. docs/RECORD.md has the layout.
-// It may use record_write for the record. specs/Face.antt has the five calls as C makes them, each a definition.
+// It may use record_write and record_bytes for the record. specs/Face.antt has the five calls as C makes them, each a definition.
 use paper::Spans;
 use paper::State;
-use record_write::STATE;
+use record_bytes::STATE;
 ghost use mathlib.Core.Path.{_≡_};
 ghost use lib.ListN.{length};
-ghost use Rattle.record_write.specs.Bytes.{recordLength};
+ghost use Rattle.record_bytes.specs.Bytes.{recordLength};
 ghost use Rattle.face.specs.Face.{stateAfter, spansAfter};
 
 // The answer to a record of another length: no number of document 01.

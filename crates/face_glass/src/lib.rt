@@ -1,12 +1,12 @@
 // Start and refresh as C makes them, for any usable module of two rows, over the state and its downloads as a record of 259
 // bytes.
-// It may use calls_glass for the calls, record_read, record_write and face for the record, numbers for the answers.
+// It may use calls_glass for the calls, record_read, record_bytes, record_write and face for the record, numbers for the answers.
 // Each contract is one line: what a call answers and leaves is the definition of that call in face's specs/Face.antt.
 use face::PanelRefreshed;
 use face::WRONG_LENGTH;
 use paper::Module;
-use record_write::RECORD;
-use record_write::STATE;
+use record_bytes::RECORD;
+use record_bytes::STATE;
 ghost use mathlib.Core.Path.{_≡_};
 ghost use Rattle.laws_state.specs.Room.{Usable};
 ghost use Rattle.face.specs.Face.{starting, startC, refreshing, refreshC};

@@ -4,8 +4,8 @@
 // Each contract is one line: what a call answers and leaves is the definition of that call in face's specs/Face.antt.
 use face::WRONG_LENGTH;
 use paper::Module;
-use record_write::RECORD;
-use record_write::STATE;
+use record_bytes::RECORD;
+use record_bytes::STATE;
 ghost use mathlib.Core.Path.{_≡_};
 ghost use Rattle.face.specs.Face.{calling, holdC, releaseC};
 

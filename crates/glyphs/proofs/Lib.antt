@@ -1,3 +1,3 @@
--- Laws that belong to no one function: of the blanks, of how a glyph is placed, and of where its columns stand.
-pub mod Frames
+-- Laws that belong to no one function: of the blanks, and of where a glyph's columns stand.
+mod Blanks
 pub mod Parts

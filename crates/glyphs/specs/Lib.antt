@@ -1,3 +1,2 @@
 pub mod Cell
-pub mod Columns
 pub mod Own

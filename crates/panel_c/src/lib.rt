@@ -6,8 +6,8 @@
 use face::PanelFed;
 use face::PanelRefreshed;
 use face::WRONG_LENGTH;
-use record_write::RECORD;
-use record_write::STATE;
+use record_bytes::RECORD;
+use record_bytes::STATE;
 ghost use mathlib.Core.Path.{_≡_};
 ghost use Rattle.paper.specs.Panel.{panel};
 ghost use Rattle.face.specs.Face.{starting, startC, feeding, feedC, calling, holdC, releaseC, refreshing, refreshC};

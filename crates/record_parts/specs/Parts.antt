@@ -15,7 +15,7 @@ use Rattle.paper.specs.declared.Hold.the-variants.{Free, Held}
 use Rattle.paper.specs.declared.State.{State}
 use Rattle.record_half.specs.declared.Slots.{Slots}
 use Rattle.record_half.specs.Slots.{slots}
-use Rattle.record_write.specs.Bytes.{atFirst, atSecond, atThird, atFourth, atBase, atSelected, atUpper, atLower}
+use Rattle.record_bytes.specs.Bytes.{atFirst, atSecond, atThird, atFourth, atBase, atSelected, atUpper, atLower}
 
 -- a 16-bit number is two bytes, low byte first
 abbrev pub wordAt : List ℕ → ℕ → ℕ

@@ -1,9 +1,9 @@
 // The parts of a state's bytes: the state that they give, read by their places. docs/RECORD.md has the layout.
-// It uses the paper, numbers for a 16-bit number, record_half for what is half read, and record_write for the places.
+// It uses the paper, numbers for a 16-bit number, record_half for what is half read, and record_bytes for the places.
 ghost use mathlib.Core.Path.{_≡_};
 ghost use Prim.Native.Nat.{_+_, _≤_};
 ghost use lib.ListN.{length};
-ghost use Rattle.record_write.specs.Bytes.{settingsLength, cursorLength, windowLength, holdLength, columnsLength, halfLength, spanLength, stateLength};
+ghost use Rattle.record_bytes.specs.Bytes.{settingsLength, cursorLength, windowLength, holdLength, columnsLength, halfLength, spanLength, stateLength};
 ghost use Rattle.record_parts.specs.Parts.{wordAt, settingsAt, cursorAt, windowFrom, spanAt, holdAt, columnsAt, slotsAt, decodedWith};
 use paper::Columns;
 use paper::Cursor;
@@ -14,15 +14,15 @@ use paper::Span;
 use paper::State;
 use paper::Style;
 use paper::Window;
+use record_bytes::AT_BASE;
+use record_bytes::AT_FIRST;
+use record_bytes::AT_FOURTH;
+use record_bytes::AT_LOWER;
+use record_bytes::AT_SECOND;
+use record_bytes::AT_SELECTED;
+use record_bytes::AT_THIRD;
+use record_bytes::AT_UPPER;
 use record_half::Slots;
-use record_write::AT_BASE;
-use record_write::AT_FIRST;
-use record_write::AT_FOURTH;
-use record_write::AT_LOWER;
-use record_write::AT_SECOND;
-use record_write::AT_SELECTED;
-use record_write::AT_THIRD;
-use record_write::AT_UPPER;
 
 // A 16-bit number.
 fn word_at(l: &[u8], i: usize) -> u16

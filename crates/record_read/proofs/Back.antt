@@ -28,8 +28,8 @@ use Rattle.laws_state.proofs.Tests.{by-cond}
 use Rattle.record_half.specs.declared.Slots.{Slots}
 use Rattle.record_half.specs.Slots.{slots, halfSlots}
 use Rattle.record_half.proofs.Back.{half-back}
-use Rattle.record_write.specs.Bytes.{atFirst, atSecond, atThird, atFourth, atBase, atSelected, atHold, atHalf, atUpper, atLower}
-use Rattle.record_write.specs.Bytes.{low, high, stateLength, windowsBytes, holdBytes, tailBytes, encoded, recordOf}
+use Rattle.record_bytes.specs.Bytes.{atFirst, atSecond, atThird, atFourth, atBase, atSelected, atHold, atHalf, atUpper, atLower}
+use Rattle.record_bytes.specs.Bytes.{low, high, stateLength, windowsBytes, holdBytes, tailBytes, encoded, recordOf}
 use Rattle.record_write.proofs.Laid.{encoded-length}
 use Rattle.record_parts.specs.Parts.{settingsAt, cursorAt, windowFrom, spanAt, holdAt, slotsAt}
 use Rattle.record_read.specs.Record.{decoded, same, broken, stateOf, stateIn, storeIn}

@@ -12,7 +12,7 @@ use Rattle.paper.specs.declared.Half.the-variants.{Nothing}
 use Rattle.paper.specs.Panel.{bytesFrom}
 use Rattle.laws_bytes.proofs.Tests.{both-of}
 use Rattle.record_half.specs.Slots.{halfSlots, halfOf}
-use Rattle.record_write.specs.Bytes.{holdLength, halfLength, atHold, atHalf, stateLength, holdBytes, encoded}
+use Rattle.record_bytes.specs.Bytes.{holdLength, halfLength, atHold, atHalf, stateLength, holdBytes, encoded}
 use Rattle.record_parts.specs.Parts.{holdAt, slotsAt, decodedWith}
 use Rattle.record_read.specs.Record.{decoded, Idle, same, stateOf}
 use Rattle.record_read.proofs.Written.{parts-decide}

@@ -11,7 +11,7 @@ use Rattle.paper.specs.declared.State.{State}
 use Rattle.paper.specs.Settings.{withHold, withHalf}
 use Rattle.record_half.specs.declared.Slots.{Slots}
 use Rattle.record_half.specs.Slots.{halfOf}
-use Rattle.record_write.specs.Bytes.{atHold, atHalf, encoded}
+use Rattle.record_bytes.specs.Bytes.{atHold, atHalf, encoded}
 use Rattle.record_parts.specs.Parts.{holdAt, slotsAt, decodedWith}
 use Rattle.record_read.specs.Record.{decoded, same, broken, stateOf}
 

@@ -9,9 +9,9 @@ use Rattle.paper.specs.declared.Half.{Half}
 use Rattle.paper.specs.declared.Hold.{Hold}
 use Rattle.paper.specs.Panel.{bytesFrom}
 use Rattle.record_half.specs.Slots.{halfSlots}
-use Rattle.record_write.specs.Bytes.{settingsLength, windowLength, baseLength, holdLength, halfLength, spansLength, stateLength}
-use Rattle.record_write.specs.Bytes.{atFirst, atSecond, atThird, atFourth, atBase, atSelected, atHold, atHalf, atUpper, atLower}
-use Rattle.record_write.specs.Bytes.{low, high, windowBytes, windowsBytes, baseBytes, holdBytes, slotBytes, spanBytes, tailBytes, encoded}
+use Rattle.record_bytes.specs.Bytes.{settingsLength, windowLength, baseLength, holdLength, halfLength, spansLength, stateLength}
+use Rattle.record_bytes.specs.Bytes.{atFirst, atSecond, atThird, atFourth, atBase, atSelected, atHold, atHalf, atUpper, atLower}
+use Rattle.record_bytes.specs.Bytes.{low, high, windowBytes, windowsBytes, baseBytes, holdBytes, slotBytes, spanBytes, tailBytes, encoded}
 use Rattle.record_write.proofs.Laid.{hold-length}
 use Rattle.record_parts.specs.Parts.{wordAt, cursorAt, windowFrom, spanAt, decodedWith}
 use Rattle.record_read.specs.Record.{same}

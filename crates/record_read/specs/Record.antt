@@ -9,7 +9,7 @@ use lib.Dec.{eqb}
 use Rattle.paper.specs.declared.State.{State}
 use Rattle.paper.specs.Settings.{withSelected}
 use Rattle.record_half.specs.Slots.{halfOf}
-use Rattle.record_write.specs.Bytes.{atHold, atHalf, atUpper, stateLength, encoded}
+use Rattle.record_bytes.specs.Bytes.{atHold, atHalf, atUpper, stateLength, encoded}
 use Rattle.record_parts.specs.Parts.{holdAt, slotsAt, decodedWith}
 
 -- ---- any bytes, read by their places

@@ -1,21 +1,21 @@
 // The record read: the state that its first 115 bytes stand for; the downloads, which follow, are read as they are. docs/RECORD.md has
 // the layout.
-// It uses the paper, record_parts for what the bytes give, record_half for what is half read, and record_write, to see whether the
+// It uses the paper, record_parts for what the bytes give, record_half for what is half read, and record_bytes, to see whether the
 // bytes are those of a state.
 ghost use mathlib.Core.Path.{_≡_};
 ghost use mathlib.Core.Bool.{true};
 ghost use Prim.Native.Nat.{_+_, _≤_};
 ghost use lib.ListN.{length};
 ghost use Rattle.paper.specs.Panel.{bytesFrom};
-ghost use Rattle.record_write.specs.Bytes.{stateLength, encoded};
+ghost use Rattle.record_bytes.specs.Bytes.{stateLength, encoded};
 ghost use Rattle.record_parts.specs.Parts.{decodedWith};
 ghost use Rattle.record_read.specs.Record.{Idle, same, stateOf};
 use paper::Half;
 use paper::Hold;
 use paper::State;
-use record_write::AT_HALF;
-use record_write::AT_HOLD;
-use record_write::AT_UPPER;
+use record_bytes::AT_HALF;
+use record_bytes::AT_HOLD;
+use record_bytes::AT_UPPER;
 
 // Whether a part of l, from `at` on, is these bytes.
 fn is_at(a: &[u8], l: &[u8], at: usize) -> bool
@@ -34,8 +34,8 @@ fn is_written(l: &[u8], hold: Hold, half: Half) -> bool
     requires { ⌜ length (now l) ≡ stateLength ⌝ }
     ensures { λ r. ⌜ r ≡ same (encoded (decodedWith (now (l .entry)) hold half)) (now (l .entry)) ⌝ }
 {
-    let held = record_write::hold_bytes(hold);
-    let read = record_write::slot_bytes(record_half::half_slots(half));
+    let held = record_bytes::hold_bytes(hold);
+    let read = record_bytes::slot_bytes(record_half::half_slots(half));
     is_at(&held, l, AT_HOLD) & is_at(&read, l, AT_HALF)
 }
 

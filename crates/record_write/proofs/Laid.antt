@@ -17,7 +17,7 @@ use Rattle.paper.specs.declared.Hold.the-variants.{Free, Held}
 use Rattle.paper.specs.declared.State.{State}
 use Rattle.paper.specs.Downloads.{storeLength}
 use Rattle.paper.specs.Settings.{makeState, withSpans}
-use Rattle.record_write.specs.Bytes.{holdLength, atBase, stateLength, recordLength, holdBytes, windowsBytes, spansInto, tailBytes, encoded, recordOf}
+use Rattle.record_bytes.specs.Bytes.{holdLength, atBase, stateLength, recordLength, holdBytes, windowsBytes, spansInto, tailBytes, encoded, recordOf}
 use Rattle.record_write.specs.Parts.{Put}
 
 -- ---- a part, byte by byte

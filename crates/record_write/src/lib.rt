@@ -1,219 +1,21 @@
 // The record written: a state as 115 bytes, for C. In the record the downloads follow, as their own bytes. docs/RECORD.md has the layout.
-// It uses the paper, and record_half for what is half read.
+// It uses the paper, and record_bytes for the bytes of each part and their places.
 ghost use mathlib.Core.Path.{_≡_};
 ghost use Prim.Native.Nat.{_+_, _≤_};
 ghost use lib.ListN.{length};
-ghost use Rattle.record_half.specs.Slots.{halfSlots};
+ghost use Rattle.record_bytes.specs.Bytes.{atFirst, atBase, stateLength, windowsBytes, spansInto, tailBytes, encoded};
 ghost use Rattle.record_write.specs.Parts.{Put};
-ghost use Rattle.record_write.specs.Bytes.{atFirst, atBase, stateLength, settingsBytes, windowBytes, windowsBytes, baseBytes, holdBytes, slotBytes, spansBytes, spansInto, tailBytes, encoded};
-use paper::Cursor;
-use paper::Half;
-use paper::Hold;
-use paper::Settings;
 use paper::Spans;
 use paper::State;
 use paper::Window;
-use record_half::Slots;
-
-// ---- the layout, as specs/Bytes has it
-
-// How long each part is.
-pub const SETTINGS: usize = 12;
-
-pub const CURSOR: usize = 5;
-
-pub const WINDOW: usize = 8 + CURSOR;
-
-pub const BASE: usize = CURSOR + 1;
-
-pub const HOLD: usize = 3 + SETTINGS;
-
-pub const COLUMNS: usize = 9;
-
-pub const HALF: usize = 13 + COLUMNS;
-
-pub const SPAN: usize = 4;
-
-pub const SPANS: usize = SPAN + SPAN;
-
-// Where each begins, one after the other.
-pub const AT_FIRST: usize = SETTINGS;
-
-pub const AT_SECOND: usize = AT_FIRST + WINDOW;
-
-pub const AT_THIRD: usize = AT_SECOND + WINDOW;
-
-pub const AT_FOURTH: usize = AT_THIRD + WINDOW;
-
-pub const AT_BASE: usize = AT_FOURTH + WINDOW;
-
-pub const AT_SELECTED: usize = AT_BASE + CURSOR;
-
-pub const AT_HOLD: usize = AT_BASE + BASE;
-
-pub const AT_HALF: usize = AT_HOLD + HOLD;
-
-pub const AT_UPPER: usize = AT_HALF + HALF;
-
-pub const AT_LOWER: usize = AT_UPPER + SPAN;
-
-// How long the state is, the downloads, and the record of both.
-pub const STATE: usize = AT_UPPER + SPANS;
-
-pub const STORE: usize = 144;
-
-pub const RECORD: usize = STATE + STORE;
-
-// ---- the bytes
-
-// The settings.
-fn settings_bytes(v: Settings) -> [u8; SETTINGS]
-    ensures { λ r. ⌜ r ≡ settingsBytes v ⌝ }
-{
-    let y = v.style;
-    [
-        v.charset,
-        v.codes,
-        v.caret,
-        v.brightness,
-        v.speed,
-        v.width,
-        v.write,
-        v.switch,
-        y.reverse,
-        y.mixing,
-        y.across,
-        y.down,
-    ]
-}
-
-// A user window.
-fn window_bytes(w: Window) -> [u8; WINDOW]
-    ensures { λ r. ⌜ r ≡ windowBytes w ⌝ }
-{
-    let k = w.cursor;
-    [
-        (w.left % 256) as u8,
-        (w.left / 256) as u8,
-        (w.top % 256) as u8,
-        (w.top / 256) as u8,
-        (w.width % 256) as u8,
-        (w.width / 256) as u8,
-        (w.height % 256) as u8,
-        (w.height / 256) as u8,
-        (k.x % 256) as u8,
-        (k.x / 256) as u8,
-        (k.y % 256) as u8,
-        (k.y / 256) as u8,
-        k.mode,
-    ]
-}
-
-// The base window's cursor, and which window is selected.
-fn base_bytes(k: Cursor, selected: u8) -> [u8; BASE]
-    ensures { λ r. ⌜ r ≡ baseBytes k selected ⌝ }
-{
-    [
-        (k.x % 256) as u8,
-        (k.x / 256) as u8,
-        (k.y % 256) as u8,
-        (k.y / 256) as u8,
-        k.mode,
-        selected,
-    ]
-}
-
-// What is held.
-pub fn hold_bytes(hold: Hold) -> [u8; HOLD]
-    ensures { λ r. ⌜ r ≡ holdBytes hold ⌝ }
-{
-    match hold {
-        Hold::Free => [0; HOLD],
-        Hold::Held {
-            window,
-            selected,
-            settings,
-        } => {
-            let y = settings.style;
-            [
-                1,
-                window,
-                selected,
-                settings.charset,
-                settings.codes,
-                settings.caret,
-                settings.brightness,
-                settings.speed,
-                settings.width,
-                settings.write,
-                settings.switch,
-                y.reverse,
-                y.mixing,
-                y.across,
-                y.down,
-            ]
-        }
-    }
-}
-
-// What is half read, laid flat.
-pub fn slot_bytes(t: Slots) -> [u8; HALF]
-    ensures { λ r. ⌜ r ≡ slotBytes t ⌝ }
-{
-    let c = t.columns;
-    [
-        t.case,
-        t.a,
-        t.b,
-        t.c,
-        t.d,
-        (t.p % 256) as u8,
-        (t.p / 256) as u8,
-        (t.q % 256) as u8,
-        (t.q / 256) as u8,
-        (t.r % 256) as u8,
-        (t.r / 256) as u8,
-        (t.s % 256) as u8,
-        (t.s / 256) as u8,
-        c.width,
-        c.come,
-        c.c0,
-        c.c1,
-        c.c2,
-        c.c3,
-        c.c4,
-        c.c5,
-        c.c6,
-    ]
-}
-
-// What is half read. Most often nothing is, and that takes no way over the slots.
-fn half_bytes(half: Half) -> [u8; HALF]
-    ensures { λ r. ⌜ r ≡ slotBytes (halfSlots half) ⌝ }
-{
-    match half {
-        Half::Nothing => [0; HALF],
-        _ => slot_bytes(record_half::half_slots(half)),
-    }
-}
-
-// The spans of the two rows.
-fn spans_bytes(ps: Spans) -> [u8; SPANS]
-    ensures { λ r. ⌜ r ≡ spansBytes ps ⌝ }
-{
-    let p = ps[0];
-    let q = ps[1];
-    [
-        (p.first % 256) as u8,
-        (p.first / 256) as u8,
-        (p.end % 256) as u8,
-        (p.end / 256) as u8,
-        (q.first % 256) as u8,
-        (q.first / 256) as u8,
-        (q.end % 256) as u8,
-        (q.end / 256) as u8,
-    ]
-}
+use record_bytes::AT_BASE;
+use record_bytes::AT_FIRST;
+use record_bytes::AT_FOURTH;
+use record_bytes::AT_HALF;
+use record_bytes::AT_HOLD;
+use record_bytes::AT_SECOND;
+use record_bytes::AT_THIRD;
+use record_bytes::AT_UPPER;
 
 // Copies a part into the state's bytes.
 fn put(src: &[u8], to: &mut [u8], at: usize)
@@ -230,13 +32,13 @@ fn put_windows(ws: [Window; 4], to: &mut [u8])
     requires { ⌜ length (now to) ≡ stateLength ⌝ }
     ensures { λ r. ⌜ Put atFirst (now (to .entry)) (now (to .exit)) (windowsBytes ws) ⌝ }
 {
-    let a = window_bytes(ws[0]);
+    let a = record_bytes::window_bytes(ws[0]);
     put(&a, to, AT_FIRST);
-    let b = window_bytes(ws[1]);
+    let b = record_bytes::window_bytes(ws[1]);
     put(&b, to, AT_SECOND);
-    let c = window_bytes(ws[2]);
+    let c = record_bytes::window_bytes(ws[2]);
     put(&c, to, AT_THIRD);
-    let d = window_bytes(ws[3]);
+    let d = record_bytes::window_bytes(ws[3]);
     put(&d, to, AT_FOURTH);
 }
 
@@ -245,7 +47,7 @@ pub fn put_spans(ps: Spans, to: &mut [u8])
     requires { ⌜ length (now to) ≡ stateLength ⌝ }
     ensures { λ r. ⌜ now (to .exit) ≡ spansInto (now (to .entry)) ps ⌝ }
 {
-    let a = spans_bytes(ps);
+    let a = record_bytes::spans_bytes(ps);
     put(&a, to, AT_UPPER);
 }
 
@@ -258,11 +60,11 @@ fn put_tail(s: State, to: &mut [u8])
     let hold = s.hold;
     let half = s.half;
     let spans = s.spans;
-    let a = base_bytes(base, s.selected);
+    let a = record_bytes::base_bytes(base, s.selected);
     put(&a, to, AT_BASE);
-    let b = hold_bytes(hold);
+    let b = record_bytes::hold_bytes(hold);
     put(&b, to, AT_HOLD);
-    let c = half_bytes(half);
+    let c = record_bytes::half_bytes(half);
     put(&c, to, AT_HALF);
     put_spans(spans, to);
 }
@@ -274,7 +76,7 @@ pub fn encode(s: State, to: &mut [u8])
 {
     let settings = s.settings;
     let windows = s.windows;
-    let a = settings_bytes(settings);
+    let a = record_bytes::settings_bytes(settings);
     put(&a, to, 0);
     put_windows(windows, to);
     put_tail(s, to);

@@ -6,7 +6,7 @@ ghost use mathlib.Core.Path.{_≡_};
 ghost use lib.ListN.{length};
 use libc::STDIN_FILENO;
 use libc::STDOUT_FILENO;
-use record_write::RECORD;
+use record_bytes::RECORD;
 use replay_input::Run;
 
 fn fill(buffer: &mut [u8], b: u8) {

@@ -1,3 +1,3 @@
--- Laws of the runs: of a line, and of where the loops have come to.
+-- Laws of the runs: of the tests for a line and its last cell, and of where the loop has come to.
 mod Lines
-pub mod Running
+mod Running

@@ -27,7 +27,7 @@ use Rattle.laws_state.proofs.Tests.{by-cond}
 use Rattle.glyphs.specs.Cell.{cellOf}
 use Rattle.moves.specs.declared.Spot.{Spot}
 use Rattle.text.specs.Inked.{Inked}
-use Rattle.runs.specs.Runs.{under}
+use Rattle.runs_line.specs.Went.{under}
 use Rattle.strides.specs.Strides.{styledBy}
 use Rattle.turns_light.specs.Turns.{restyled, onDesk}
 use Rattle.turns_light.proofs.Inks.{inks}

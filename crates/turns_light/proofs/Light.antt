@@ -49,8 +49,9 @@ use Rattle.laws_state.proofs.Tests.{by-cond}
 use Rattle.laws_state.proofs.Views.{view-place}
 use Rattle.moves.specs.declared.Spot.{Spot}
 use Rattle.moves.specs.Does.{Does, spot}
-use Rattle.runs.specs.declared.Drawn.{Drawn}
-use Rattle.runs.specs.Runs.{under, Ran}
+use Rattle.runs_line.specs.declared.Drawn.{Drawn}
+use Rattle.runs_line.specs.Went.{under}
+use Rattle.runs.specs.Runs.{Ran}
 use Rattle.strides.specs.Strides.{stepOf, isStyling, styledBy, isLight}
 use Rattle.laws_state.specs.Told.{fed}
 use Rattle.turns_light.specs.Turns.{Gathers, here, restyled, onDesk}

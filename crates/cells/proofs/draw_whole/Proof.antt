@@ -4,7 +4,7 @@ use Prim.Native.Nat.{ℕ, _+_, _≤_}
 use native.Mathlib.Omega.{arith}
 use borrow.Author.Needs.{needs}
 use Rattle.paper.specs.Strokes.{rectAt}
-use Rattle.glyphs.specs.Columns.{plainWidth}
+use Rattle.glyphs_columns.specs.Columns.{plainWidth}
 use Rattle.cells.specs.Drawn.{drawnAs}
 use Rattle.cells.proofs.Stamps.{plain-cell-facts, drawn-alike}
 use Rattle.cells.proofs.draw_whole.Statement.{statement}

@@ -6,7 +6,7 @@ use native.Mathlib.Omega.{arith}
 use lib.ListN.{length, getD}
 use Rattle.laws_memory.proofs.Rects.{rect-none, row-end}
 use Rattle.laws_bytes.specs.Bytes.{reversedByte}
-use Rattle.glyphs.proofs.Frames.{placed-byte}
+use Rattle.glyphs_columns.proofs.Frames.{placed-byte}
 use Rattle.cells.specs.Mixed.{inlaid}
 use Rattle.cells.proofs.Stamps.{inlaid-turn}
 use Rattle.cells.proofs.stamp_glyph.Statement.{statement}

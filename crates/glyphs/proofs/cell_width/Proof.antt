@@ -4,7 +4,7 @@ use native.Mathlib.Nat.{mul-le-mul}
 use native.Mathlib.Omega.{arith}
 use borrow.Author.Needs.{needs}
 use Rattle.paper.specs.Cells.{cellWidth}
-use Rattle.glyphs.proofs.Frames.{columns-few}
+use Rattle.glyphs.proofs.Blanks.{columns-few}
 use Rattle.glyphs.proofs.cell_width.Statement.{statement}
 use Rattle.glyphs.proofs.cell_width.Tie as tie
 

@@ -5,7 +5,7 @@ use mathlib.Core.Bool.{true}
 use lib.ListN.{getD}
 use native.Mathlib.Omega.{arith}
 use denote.Ref.{now}
-use Rattle.record_write.specs.Bytes.{atHold, atUpper}
+use Rattle.record_bytes.specs.Bytes.{atHold, atUpper}
 use Rattle.record_read.proofs.Idle.{idle-more}
 use Rattle.record_read.proofs.is_idle.Statement.{statement}
 use Rattle.record_read.proofs.is_idle.Tie as tie

@@ -2,7 +2,7 @@
 use denote.Ref.{now}
 use borrow.Author.Needs.{needs}
 use mathlib.Core.Path.{ap, _∙_}
-use Rattle.record_write.specs.Bytes.{slotBytes}
+use Rattle.record_bytes.specs.Bytes.{slotBytes}
 use Rattle.record_read.proofs.Written.{both-tested}
 use Rattle.record_read.proofs.is_written.Statement.{statement}
 use Rattle.record_read.proofs.is_written.Tie as tie

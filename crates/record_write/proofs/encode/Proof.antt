@@ -1,7 +1,7 @@
 -- `encode` meets its contract: the settings, the windows and what follows them are all its bytes. Assumes nothing.
 use mathlib.Core.Path.{refl}
 use borrow.Author.Needs.{needs}
-use Rattle.record_write.specs.Bytes.{stateLength, encoded, windowsBytes}
+use Rattle.record_bytes.specs.Bytes.{stateLength, encoded, windowsBytes}
 use Rattle.record_write.proofs.Laid.{known, after, whole, encoded-length}
 use Rattle.record_write.proofs.encode.Statement.{statement}
 use Rattle.record_write.proofs.encode.Tie as tie

@@ -4,7 +4,7 @@ use Prim.Native.Nat.{ℕ, _+_}
 use native.Mathlib.Omega.{arith}
 use mathlib.Core.Path.{refl, ap}
 use borrow.Author.Needs.{needs}
-use Rattle.record_write.specs.Bytes.{atHold, tailBytes}
+use Rattle.record_bytes.specs.Bytes.{atHold, tailBytes}
 use Rattle.record_write.proofs.Laid.{known, after, ends, hold-length}
 use Rattle.record_write.proofs.put_tail.Statement.{statement}
 use Rattle.record_write.proofs.put_tail.Tie as tie

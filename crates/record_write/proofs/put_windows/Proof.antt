@@ -1,7 +1,7 @@
 -- `put_windows` meets its contract: a window's bytes after the other's. Assumes nothing.
 use mathlib.Core.Path.{refl}
 use borrow.Author.Needs.{needs}
-use Rattle.record_write.specs.Bytes.{windowsBytes}
+use Rattle.record_bytes.specs.Bytes.{windowsBytes}
 use Rattle.record_write.proofs.Laid.{known, after}
 use Rattle.record_write.proofs.put_windows.Statement.{statement}
 use Rattle.record_write.proofs.put_windows.Tie as tie

@@ -7,8 +7,9 @@ use lib.ListN.{length}
 use Rattle.paper.specs.Downloads.{faces}
 use Rattle.paper.specs.Cells.{cellWidth, cellHeight}
 use Rattle.laws_state.proofs.Runs.{within-room}
-use Rattle.runs.specs.Runs.{drawnTo, Went}
-use Rattle.runs.proofs.Running.{went-begin, went-on, ran-stop, ran-end}
+use Rattle.runs_line.specs.Went.{drawnTo, Went}
+use Rattle.runs_line.proofs.Lining.{went-begin}
+use Rattle.runs.proofs.Running.{went-on, ran-stop, ran-end}
 use Rattle.runs.proofs.run.Statement.{statement}
 use Rattle.runs.proofs.run.Tie as tie
 
