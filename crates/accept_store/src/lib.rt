@@ -5,18 +5,7 @@ ghost use Prim.Native.Nat.{_<_};
 ghost use lib.ListN.{length};
 ghost use Rattle.paper.specs.Downloads.{storeLength};
 ghost use Rattle.paper.specs.Bounds.{isFree, downloadOk, placeOk, storeOk};
-ghost use Rattle.accept_store.specs.Tests.{allZero, placesOk};
-
-// Every byte is 0.
-fn all_zero(ds: &[u8]) -> bool
-    ensures { λ r. ⌜ r ≡ allZero (now (ds .entry)) ⌝ }
-{
-    let mut zero = true;
-    for a in 0..ds.len() {
-        zero = zero & (ds[a] == 0);
-    }
-    zero
-}
+ghost use Rattle.accept_store.specs.Tests.{allFree, placesOk};
 
 // A free place is all zeros.
 fn is_free(ds: &[u8], k: usize) -> bool
@@ -26,6 +15,18 @@ fn is_free(ds: &[u8], k: usize) -> bool
     let mut free = true;
     for j in 0..9 {
         free = free & (ds[9 * k + j] == 0);
+    }
+    free
+}
+
+// Nothing is stored.
+fn all_free(ds: &[u8]) -> bool
+    requires { ⌜ length (now ds) ≡ storeLength ⌝ }
+    ensures { λ r. ⌜ r ≡ allFree (now (ds .entry)) ⌝ }
+{
+    let mut free = true;
+    for k in 0..16 {
+        free = free & is_free(ds, k);
     }
     free
 }
@@ -72,7 +73,7 @@ pub fn store_ok(ds: &[u8]) -> bool
     if ds.len() != 144 {
         return false;
     }
-    if all_zero(ds) {
+    if all_free(ds) {
         return true;
     }
     places_ok(ds)

@@ -14,7 +14,8 @@ use Rattle.paper.specs.Carry.{Meaning, isHeld, erasable, asks, carriedOut, answ
 use Rattle.carry_state.specs.declared.Done.{Done}
 use Rattle.carry_state.specs.Says.{done}
 use Rattle.carry_state.proofs.Answers.{says}
-use Rattle.carry_store.specs.Stores.{StoresCommand, eraseAnswer, erasedIf}
+use Rattle.carry_store.specs.Stores.{StoresCommand}
+use Rattle.downloads_answer.specs.Answers.{eraseAnswer, erasedIf}
 
 module _ (g : Module) (f : Faces) (s : State) (a code : ℕ) where
   -- it leaves the state alone, whatever it is answered: 15 while held, then 11, then 19

@@ -10,7 +10,7 @@ use Rattle.paper.specs.Settings.{withHalf}
 use Rattle.paper.specs.Carry.{takeOf, takeStore}
 use Rattle.carry_state.specs.Says.{done}
 use Rattle.carry_state.proofs.Answers.{says, ends-at}
-use Rattle.carry_store.specs.Stores.{notedIf, answerIf, storedIf}
+use Rattle.downloads_answer.specs.Answers.{notedIf, answerIf, storedIf}
 use Rattle.carry_store.proofs.Stored.{goes-on, is-read}
 use Rattle.carry_store.proofs.glyph_end.Statement.{statement}
 use Rattle.carry_store.proofs.glyph_end.Tie as tie

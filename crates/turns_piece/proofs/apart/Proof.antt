@@ -1,10 +1,10 @@
--- `calls_feed::apart` meets its contract: a state is what its parts make. Assumes nothing.
+-- `turns_piece::apart` meets its contract: a state is what its parts make. Assumes nothing.
 use borrow.Author.Needs.{needs}
 use mathlib.Core.Path.{_≡_, sym, ap}
 use Rattle.paper.specs.declared.Hold.{Hold}
 use Rattle.paper.specs.declared.State.{State}
-use Rattle.calls_feed.proofs.apart.Statement.{statement}
-use Rattle.calls_feed.proofs.apart.Tie as tie
+use Rattle.turns_piece.proofs.apart.Statement.{statement}
+use Rattle.turns_piece.proofs.apart.Tie as tie
 
 abbrev withHold : State → Hold → State
 withHold s h = record { settings = s .settings; windows = s .windows; base = s .base; selected = s .selected; hold = h; half = s .half; spans = s .spans }

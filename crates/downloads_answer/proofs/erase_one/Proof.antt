@@ -1,9 +1,9 @@
--- `carry_store::erase_one` meets its contract: 15 while held, then 11, then 19. Assumes nothing.
+-- `downloads_answer::erase_one` meets its contract: 15 while held, then 11, then 19. Assumes nothing.
 use borrow.Author.Needs.{needs}
 use mathlib.Core.Path.{refl, sym, _∙_}
 use Rattle.paper.specs.Numbers.{outcomeNumber}
-use Rattle.carry_store.proofs.erase_one.Statement.{statement}
-use Rattle.carry_store.proofs.erase_one.Tie as tie
+use Rattle.downloads_answer.proofs.erase_one.Statement.{statement}
+use Rattle.downloads_answer.proofs.erase_one.Tie as tie
 
 returns : tie.Need-returns
 unfolding outcomeNumber

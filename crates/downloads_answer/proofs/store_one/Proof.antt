@@ -1,9 +1,9 @@
--- `store_one` meets its contract: while held nothing is stored, else the note says whether the code was dropped. Assumes nothing.
+-- `downloads_answer::store_one` meets its contract: while held nothing is stored, else the note says whether the code was dropped. Assumes nothing.
 use borrow.Author.Needs.{needs}
 use mathlib.Core.Path.{refl, sym}
 use mathlib.Core.Bool.{or-false}
-use Rattle.carry_store.proofs.store_one.Statement.{statement}
-use Rattle.carry_store.proofs.store_one.Tie as tie
+use Rattle.downloads_answer.proofs.store_one.Statement.{statement}
+use Rattle.downloads_answer.proofs.store_one.Tie as tie
 
 returns : tie.Need-returns
 returns c =
