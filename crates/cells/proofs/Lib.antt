@@ -1,5 +1,4 @@
--- Laws that belong to no one function: of columns mixed into memory, of cells walked over or stamped, of strokes for callers.
-mod Columns
-mod Walks
-mod Stamps
+-- Laws that belong to no one function: of the tests for a plain cell, of an image's byte, of strokes for callers.
+mod Plain
+mod Images
 pub mod Strokes

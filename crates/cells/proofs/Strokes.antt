@@ -7,7 +7,8 @@ use Rattle.paper.specs.declared.Style.{Style}
 use Rattle.paper.specs.declared.View.{View}
 use Rattle.paper.specs.Strokes.{applied}
 use Rattle.paper.specs.Cells.{cellWidth, cellHeight, partOf, glyphStroke, blankStroke, imageStroke}
-use Rattle.cells.specs.Drawn.{drawnAs, drawn, blanked, imaged}
+use Rattle.cells_columns.specs.DrawnAs.{drawnAs}
+use Rattle.cells.specs.Drawn.{drawn, blanked, imaged}
 
 module _ (g : Module) (m : List ℕ) (y : Style) (v : View) where
   -- the cell of a glyph at the cursor

@@ -12,7 +12,8 @@ use Rattle.paper.specs.Downloads.{Faces, glyphOf}
 use Rattle.paper.specs.Strokes.{rectAt, markRect}
 use Rattle.paper.specs.Cells.{cellWidth, cellHeight, partOf, drawStroke}
 use Rattle.paper.specs.Moves.{writing, to, htOf, drawTab, characterOf}
-use Rattle.cells.specs.Drawn.{drawnAs, drawn}
+use Rattle.cells_columns.specs.DrawnAs.{drawnAs}
+use Rattle.cells.specs.Drawn.{drawn}
 use Rattle.moves.specs.declared.Spot.{Spot}
 use Rattle.moves.specs.Does.{Does, spot}
 use Rattle.moves.proofs.Done.{does-only, does-stroke, does-after}

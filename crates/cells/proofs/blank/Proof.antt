@@ -10,7 +10,7 @@ use Rattle.paper.specs.Cells.{allOff}
 use Rattle.laws_bytes.proofs.Drawn.{blank-byte}
 use Rattle.laws_memory.proofs.Rects.{rect-none}
 use Rattle.cells.specs.Drawn.{blanked}
-use Rattle.cells.proofs.Columns.{either, inked, cell-turn, cell-end}
+use Rattle.cells_columns.proofs.Columns.{either, inked, cell-turn, cell-end}
 use Rattle.cells.proofs.blank.Statement.{statement}
 use Rattle.cells.proofs.blank.Tie as tie
 

@@ -4,7 +4,8 @@ use Prim.Native.Nat.{_≤_}
 use native.Mathlib.Omega.{arith}
 use borrow.Author.Needs.{needs}
 use lib.ListN.{length}
-use Rattle.cells.proofs.Stamps.{bare-facts, bare-end, drawn-other}
+use Rattle.cells_columns.proofs.Stamps.{bare-end}
+use Rattle.cells.proofs.Plain.{bare-facts, drawn-other}
 use Rattle.cells.proofs.draw.Statement.{statement}
 use Rattle.cells.proofs.draw.Tie as tie
 

@@ -4,7 +4,7 @@ use Prim.Native.Nat.{_+_, _≤_}
 use native.Mathlib.Omega.{arith}
 use borrow.Author.Needs.{needs}
 use Rattle.glyphs_columns.specs.Columns.{plainWidth}
-use Rattle.cells.proofs.Stamps.{plain-facts, drawn-alike}
+use Rattle.cells.proofs.Plain.{plain-facts, drawn-alike}
 use Rattle.cells.proofs.draw_alike.Statement.{statement}
 use Rattle.cells.proofs.draw_alike.Tie as tie
 

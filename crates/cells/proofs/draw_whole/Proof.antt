@@ -5,8 +5,8 @@ use native.Mathlib.Omega.{arith}
 use borrow.Author.Needs.{needs}
 use Rattle.paper.specs.Strokes.{rectAt}
 use Rattle.glyphs_columns.specs.Columns.{plainWidth}
-use Rattle.cells.specs.Drawn.{drawnAs}
-use Rattle.cells.proofs.Stamps.{plain-cell-facts, drawn-alike}
+use Rattle.cells_columns.specs.DrawnAs.{drawnAs}
+use Rattle.cells.proofs.Plain.{plain-cell-facts, drawn-alike}
 use Rattle.cells.proofs.draw_whole.Statement.{statement}
 use Rattle.cells.proofs.draw_whole.Tie as tie
 

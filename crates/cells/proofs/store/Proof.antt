@@ -1,6 +1,6 @@
 -- `cells::store` meets its contract: a byte's dots through reverse and mixing. Assumes nothing.
 use borrow.Author.Needs.{needs}
-use Rattle.cells.proofs.Columns.{imaged-by}
+use Rattle.cells.proofs.Images.{imaged-by}
 use Rattle.cells.proofs.store.Statement.{statement}
 use Rattle.cells.proofs.store.Tie as tie
 

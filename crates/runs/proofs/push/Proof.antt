@@ -8,7 +8,8 @@ use lib.ListN.{length}
 use Rattle.paper.specs.Downloads.{faces, glyphOf}
 use Rattle.paper.specs.Cells.{drawStroke}
 use Rattle.glyphs.proofs.Parts.{font-columns, font-alone}
-use Rattle.cells.specs.Drawn.{drawnAs, drawn}
+use Rattle.cells_columns.specs.DrawnAs.{drawnAs}
+use Rattle.cells.specs.Drawn.{drawn}
 use Rattle.moves.proofs.Done.{does-stroke}
 use Rattle.text.proofs.Steps.{drawn-from}
 use Rattle.runs.proofs.Lines.{drawn-pushed}

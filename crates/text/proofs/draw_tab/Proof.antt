@@ -8,7 +8,8 @@ use Rattle.paper.specs.Downloads.{faces, glyphOf}
 use Rattle.paper.specs.Cells.{cellWidth, cellHeight, drawStroke}
 use Rattle.paper.specs.Moves.{htOf, drawTab}
 use Rattle.glyphs.proofs.Parts.{font-columns, font-alone}
-use Rattle.cells.specs.Drawn.{drawnAs, drawn}
+use Rattle.cells_columns.specs.DrawnAs.{drawnAs}
+use Rattle.cells.specs.Drawn.{drawn}
 use Rattle.moves.proofs.Done.{does-stroke, does-after}
 use Rattle.text.proofs.Steps.{drawn-from}
 use Rattle.text.proofs.draw_tab.Statement.{statement}

@@ -1,9 +1,9 @@
--- `cells::mix` meets its contract: a byte made of the one that stood there, stored. Assumes nothing.
+-- `cells_columns::mix` meets its contract: a byte made of the one that stood there, stored. Assumes nothing.
 use borrow.Author.Needs.{needs}
 use native.Mathlib.Omega.{arith}
-use Rattle.cells.proofs.Columns.{mixed-by}
-use Rattle.cells.proofs.mix.Statement.{statement}
-use Rattle.cells.proofs.mix.Tie as tie
+use Rattle.cells_columns.proofs.Columns.{mixed-by}
+use Rattle.cells_columns.proofs.mix.Statement.{statement}
+use Rattle.cells_columns.proofs.mix.Tie as tie
 
 returns : tie.Need-returns
 returns c =

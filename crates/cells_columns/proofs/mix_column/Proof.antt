@@ -1,9 +1,9 @@
--- `cells::mix_column` meets its contract, by the height. Assumes nothing.
+-- `cells_columns::mix_column` meets its contract, by the height. Assumes nothing.
 use borrow.Author.Needs.{needs}
 use native.Mathlib.Omega.{arith}
-use Rattle.cells.proofs.Columns.{column-none, column-one, column-two}
-use Rattle.cells.proofs.mix_column.Statement.{statement}
-use Rattle.cells.proofs.mix_column.Tie as tie
+use Rattle.cells_columns.proofs.Columns.{column-none, column-one, column-two}
+use Rattle.cells_columns.proofs.mix_column.Statement.{statement}
+use Rattle.cells_columns.proofs.mix_column.Tie as tie
 
 returns : tie.Need-returns
 returns c = column-none _ _ _ _ _ _ _ (c .if1 .taken)

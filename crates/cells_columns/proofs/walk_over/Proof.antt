@@ -1,4 +1,4 @@
--- `cells::walk_over` meets its contract. The loop's invariant: the first j columns are mixed in, and the walk is at column j.
+-- `cells_columns::walk_over` meets its contract. The loop's invariant: the first j columns are mixed in, and the walk is at column j.
 -- Assumes nothing.
 use mathlib.Core.Path.{_≡_, refl}
 use Prim.Native.Nat.{_≤_, _-_}
@@ -10,11 +10,11 @@ use Rattle.paper.specs.Cells.{cellDot}
 use Rattle.laws_bytes.specs.Bytes.{cellByte}
 use Rattle.laws_bytes.proofs.Drawn.{cell-byte}
 use Rattle.laws_memory.proofs.Rects.{rect-none}
-use Rattle.cells.specs.Drawn.{drawnAs}
-use Rattle.cells.proofs.Columns.{inked, cell-turn, cell-end}
-use Rattle.cells.proofs.Walks.{Walked, walked-next, walked-row}
-use Rattle.cells.proofs.walk_over.Statement.{statement}
-use Rattle.cells.proofs.walk_over.Tie as tie
+use Rattle.cells_columns.specs.DrawnAs.{drawnAs}
+use Rattle.cells_columns.proofs.Columns.{inked, cell-turn, cell-end}
+use Rattle.cells_columns.proofs.Walks.{Walked, walked-next, walked-row}
+use Rattle.cells_columns.proofs.walk_over.Statement.{statement}
+use Rattle.cells_columns.proofs.walk_over.Tie as tie
 
 abbrev Inv-loop : tie.InvT-loop
 Inv-loop g mem₀ framed cols w style r top walk₀ j₀ width mem walk j =

@@ -1,15 +1,14 @@
 -- A cell one row high that is not enlarged, mixed into memory some columns at a time. Assumes nothing.
 use mathlib.Core.Path.{_≡_, refl, sym, ap, _∙_}
-use mathlib.Core.Bool.{Bool, true, false, cond, _&&_}
+use mathlib.Core.Bool.{Bool, true, false, cond}
 use mathlib.Core.List.{List}
 use Prim.Native.Nat.{ℕ, _+_, _*_, _-_, _/_, _<_, _≤_}
 use native.Mathlib.Nat.{zero-add, div-one}
 use native.Mathlib.Omega.{arith}
-use borrow.Author.Tests.{le-leb, lt-leb, le-ltb, lt-ltb, eq-eqb, leb-true, eqb-true}
-use lib.Dec.{leb, eqb}
+use borrow.Author.Tests.{le-leb, lt-leb, le-ltb, lt-ltb, eq-eqb}
+use lib.Dec.{eqb}
 use lib.ListN.{length, getD}
 use Rattle.paper.specs.declared.Module.{Module}
-use Rattle.paper.specs.declared.Rect.{Rect}
 use Rattle.paper.specs.declared.Style.{Style}
 use Rattle.paper.specs.Panel.{address, byteOf}
 use Rattle.paper.specs.Strokes.{rectAt, rectMap}
@@ -17,39 +16,11 @@ use Rattle.paper.specs.Cells.{blanksLeft, cellDot, enlargedDots}
 use Rattle.laws_bytes.specs.Bytes.{placedByte, reversedByte, mixedByte, cellByte, pennedByte}
 use Rattle.laws_bytes.proofs.Drawn.{cell-byte}
 use Rattle.laws_memory.specs.Rectangles.{Bytes}
-use Rattle.laws_memory.proofs.Tests.{and-parts}
 use Rattle.laws_memory.proofs.Rects.{rect-none, rect-same, rect-beside}
-use Rattle.glyphs_columns.proofs.Frames.{framed-alike, framed-other}
 use Rattle.glyphs_columns.specs.Columns.{plainByte, blankRight}
-use Rattle.cells.specs.Drawn.{drawnAs, drawn}
-use Rattle.cells.specs.Mixed.{mixedAt, unlit, inlaid}
-use Rattle.cells.proofs.Columns.{either, column-one, cell-turn, cell-end}
-
--- what the test for such a cell says
-pub plain-facts : (y : Style) (height width whole w : ℕ)
-    → ((((eqb (y .across) 1 && eqb (y .down) 1) && eqb height 1) && eqb width whole) && leb w 1) ≡ true
-    → (y .across ≡ 1) × (y .down ≡ 1) × (height ≡ 1) × (width ≡ whole) × (w ≤ 1)
-plain-facts y height width whole w t =
-    let four = and-parts (((eqb (y .across) 1 && eqb (y .down) 1) && eqb height 1) && eqb width whole) (leb w 1) t in
-    let three = and-parts ((eqb (y .across) 1 && eqb (y .down) 1) && eqb height 1) (eqb width whole) (four .0) in
-    let two = and-parts (eqb (y .across) 1 && eqb (y .down) 1) (eqb height 1) (three .0) in
-    let one = and-parts (eqb (y .across) 1) (eqb (y .down) 1) (two .0) in (
-      eqb-true _ _ (one .0),
-      eqb-true _ _ (one .1),
-      eqb-true _ _ (two .1),
-      eqb-true _ _ (three .1),
-      leb-true w 1 (four .1),
-    )
-
--- and of a whole one
-pub plain-cell-facts : (y : Style) (width whole w : ℕ)
-    → (((eqb (y .across) 1 && eqb (y .down) 1) && eqb width whole) && leb w 1) ≡ true
-    → (y .across ≡ 1) × (y .down ≡ 1) × (width ≡ whole) × (w ≤ 1)
-plain-cell-facts y width whole w t =
-    let three = and-parts ((eqb (y .across) 1 && eqb (y .down) 1) && eqb width whole) (leb w 1) t in
-    let two = and-parts (eqb (y .across) 1 && eqb (y .down) 1) (eqb width whole) (three .0) in
-    let one = and-parts (eqb (y .across) 1) (eqb (y .down) 1) (two .0) in
-    (eqb-true _ _ (one .0), eqb-true _ _ (one .1), eqb-true _ _ (two .1), leb-true w 1 (three .1))
+use Rattle.cells_columns.specs.DrawnAs.{drawnAs}
+use Rattle.cells_columns.specs.Mixed.{mixedAt, unlit, inlaid}
+use Rattle.cells_columns.proofs.Columns.{either, column-one, cell-turn, cell-end}
 
 -- a blank column mixed in, or none
 module _ (g : Module) (y : Style) (x top n : ℕ) (m : List ℕ) where
@@ -142,21 +113,3 @@ bare-end g cols w y left top n m m′ across down dots bytes h e =
     bare j h =
         let from : j - 0 ≡ j = omega arith in
         rw (le-leb 0 j (omega arith), zero-add, lt-ltb j (length cols) h, from)
-
--- a glyph is drawn framed as the font's where it has as many columns, and bare where it has not
-module _ (g : Module) (cols : List ℕ) (w : ℕ) (y : Style) (q : Rect) (m m′ : List ℕ) where
-  pub drawn-alike : length cols ≡ g .glyph → m′ ≡ drawnAs g (g .framed) cols w y q m → m′ ≡ drawn g cols w y q m
-  drawn-alike e p = p ∙ ap (λ (f : Bool). drawnAs g f cols w y q m) (sym (framed-alike g cols e))
-
-  pub drawn-other : (length cols ≡ g .glyph → ⊥) → m′ ≡ drawnAs g false cols w y q m → m′ ≡ drawn g cols w y q m
-  drawn-other n p = p ∙ ap (λ (f : Bool). drawnAs g f cols w y q m) (sym (framed-other g cols n))
-
--- what the test for bare columns says
-pub bare-facts : (y : Style) (height width n : ℕ)
-    → (((eqb (y .across) 1 && eqb (y .down) 1) && eqb height 1) && leb width n) ≡ true
-    → (y .across ≡ 1) × (y .down ≡ 1) × (height ≡ 1) × (width ≤ n)
-bare-facts y height width n t =
-    let three = and-parts ((eqb (y .across) 1 && eqb (y .down) 1) && eqb height 1) (leb width n) t in
-    let two = and-parts (eqb (y .across) 1 && eqb (y .down) 1) (eqb height 1) (three .0) in
-    let one = and-parts (eqb (y .across) 1) (eqb (y .down) 1) (two .0) in
-    (eqb-true _ _ (one .0), eqb-true _ _ (one .1), eqb-true _ _ (two .1), leb-true width n (three .1))

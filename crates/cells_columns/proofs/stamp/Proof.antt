@@ -1,9 +1,9 @@
--- `cells::stamp` meets its contract: its three calls, one after the other. Assumes nothing.
+-- `cells_columns::stamp` meets its contract: its three calls, one after the other. Assumes nothing.
 use native.Mathlib.Omega.{arith}
 use borrow.Author.Needs.{needs}
-use Rattle.cells.proofs.Stamps.{stamp-end}
-use Rattle.cells.proofs.stamp.Statement.{statement}
-use Rattle.cells.proofs.stamp.Tie as tie
+use Rattle.cells_columns.proofs.Stamps.{stamp-end}
+use Rattle.cells_columns.proofs.stamp.Statement.{statement}
+use Rattle.cells_columns.proofs.stamp.Tie as tie
 
 returns : tie.Need-returns
 returns c =

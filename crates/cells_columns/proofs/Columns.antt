@@ -9,17 +9,17 @@ use native.Mathlib.Omega.{arith}
 use lib.ListN.{length, getD, set}
 use Rattle.paper.specs.declared.Module.{Module}
 use Rattle.paper.specs.declared.Style.{Style}
-use Rattle.paper.specs.Panel.{address, dot, byteOf}
+use Rattle.paper.specs.Panel.{address, byteOf}
 use Rattle.paper.specs.Strokes.{rectAt, rectMap}
 use Rattle.paper.specs.Cells.{Dots, enlargedDots, penned}
 use Rattle.laws_bytes.specs.Bytes.{reversedByte, mixedByte, pennedByte}
-use Rattle.laws_bytes.proofs.Penned.{penned-dots, penned-byte}
+use Rattle.laws_bytes.proofs.Penned.{penned-byte}
 use Rattle.laws_memory.specs.Rectangles.{Bytes}
 use Rattle.laws_memory.proofs.Rects.{rect-none, rect-same, rect-beside, rect-below, rect-one}
 use Rattle.glyphs_columns.specs.declared.Tall.{Tall}
 use Rattle.glyphs_columns.specs.Columns.{atRow}
-use Rattle.cells.specs.Drawn.{cellMap, imaged}
-use Rattle.cells.specs.Mixed.{mixedAt, mixedColumn}
+use Rattle.cells_columns.specs.DrawnAs.{cellMap}
+use Rattle.cells_columns.specs.Mixed.{mixedAt, mixedColumn}
 
 -- ---- one byte
 
@@ -28,15 +28,6 @@ pub mixed-by : (g : Module) (y : Style) (x top v a u : ℕ) (m : List ℕ) → t
     → u ≡ mixedByte y v (getD m a 0) → set m a u ≡ mixedAt g y x top v m
 unfolding mixedAt
 mixed-by g y x top v a u m hy l e k = rw e (rect-one g x top _ m u hy (rw e at l) (rw e at k))
-
--- of an image
-pub imaged-by : (g : Module) (y : Style) (x top v u : ℕ) (m m′ : List ℕ) → v < 256 → Bytes m → u ≡ reversedByte y v
-    → m′ ≡ mixedAt g y x top u m → m′ ≡ imaged g y x top v m
-unfolding mixedAt imaged pennedByte
-imaged-by g y x top v u m m′ hv bytes e p = p ∙ rect-same g (rectAt x top 1 1) _ _ m (λ j r hj hr. same _ (bytes _))
-  where
-    same : (b : ℕ) → b < 256 → mixedByte y u b ≡ penned y (dot v) b
-    same b hb = ap (λ (n : ℕ). mixedByte y n b) e ∙ sym (penned-dots y v b hv hb)
 
 -- ---- one column
 

@@ -1,9 +1,9 @@
--- `cells::stamp_blank` meets its contract: one column mixed in, or none. Assumes nothing.
+-- `cells_columns::stamp_blank` meets its contract: one column mixed in, or none. Assumes nothing.
 use native.Mathlib.Omega.{arith}
 use borrow.Author.Needs.{needs}
-use Rattle.cells.proofs.Stamps.{blank-some, blank-none}
-use Rattle.cells.proofs.stamp_blank.Statement.{statement}
-use Rattle.cells.proofs.stamp_blank.Tie as tie
+use Rattle.cells_columns.proofs.Stamps.{blank-some, blank-none}
+use Rattle.cells_columns.proofs.stamp_blank.Statement.{statement}
+use Rattle.cells_columns.proofs.stamp_blank.Tie as tie
 
 returns : tie.Need-returns
 returns c =

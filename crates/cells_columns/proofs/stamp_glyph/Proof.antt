@@ -1,4 +1,4 @@
--- `cells::stamp_glyph` meets its contract. The loop's invariant: the first j columns are mixed in. Assumes nothing.
+-- `cells_columns::stamp_glyph` meets its contract. The loop's invariant: the first j columns are mixed in. Assumes nothing.
 use mathlib.Core.Path.{_≡_, refl, ap}
 use Prim.Native.Nat.{_-_, _≤_}
 use borrow.Author.Needs.{needs}
@@ -7,10 +7,10 @@ use lib.ListN.{length, getD}
 use Rattle.laws_memory.proofs.Rects.{rect-none, row-end}
 use Rattle.laws_bytes.specs.Bytes.{reversedByte}
 use Rattle.glyphs_columns.proofs.Frames.{placed-byte}
-use Rattle.cells.specs.Mixed.{inlaid}
-use Rattle.cells.proofs.Stamps.{inlaid-turn}
-use Rattle.cells.proofs.stamp_glyph.Statement.{statement}
-use Rattle.cells.proofs.stamp_glyph.Tie as tie
+use Rattle.cells_columns.specs.Mixed.{inlaid}
+use Rattle.cells_columns.proofs.Stamps.{inlaid-turn}
+use Rattle.cells_columns.proofs.stamp_glyph.Statement.{statement}
+use Rattle.cells_columns.proofs.stamp_glyph.Tie as tie
 
 abbrev Inv-loop : tie.InvT-loop
 Inv-loop g mem₀ framed cols style left top count p j₀ mem j =

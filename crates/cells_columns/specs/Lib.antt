@@ -1,0 +1,2 @@
+pub mod DrawnAs
+pub mod Mixed
