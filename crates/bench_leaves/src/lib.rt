@@ -1,6 +1,6 @@
 // Leaves measured: the functions that write memory and glass, exported to C for the benchmark in bench/.
-// It may use modules, dots, glass, glyphs and cells. Each function works on the 112 by 16 module; it tests what its leaf asks and
-// does nothing if that does not hold. It is no part of the panel.
+// It may use modules, dots, dots_shift, glass, glyphs and cells. Each function works on the 112 by 16 module; it tests what its leaf
+// asks and does nothing if that does not hold. It is no part of the panel.
 use paper::Module;
 use paper::Rect;
 use paper::Span;
@@ -57,7 +57,7 @@ pub extern "C" fn leaf_scroll_up(
     if mem.len() != modules::memory_length(g) {
         return;
     }
-    dots::scroll_up(g, mem, r, lines as usize);
+    dots_shift::scroll_up(g, mem, r, lines as usize);
 }
 
 // Moves a rectangle's columns left.
@@ -75,7 +75,7 @@ pub extern "C" fn leaf_move_left(
     if mem.len() != modules::memory_length(g) {
         return;
     }
-    dots::move_left(g, mem, r, n as usize);
+    dots_shift::move_left(g, mem, r, n as usize);
 }
 
 // Draws a code's cell at (left, top), enlarged, reversed and mixed as the four numbers say.

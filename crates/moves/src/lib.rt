@@ -1,5 +1,5 @@
 // Moves: BS, LF and CLR over a view: where the cursor goes, what memory holds, how the spans grow; and what HT shares with them.
-// It may use the dots and the spans; it knows nothing of characters, windows, settings or how bytes are read.
+// It may use the dots, their shifts and the spans; it knows nothing of characters, windows, settings or how bytes are read.
 // Each contract says that what was done is what the paper's move of the same name means.
 use paper::Module;
 use paper::Rect;
@@ -95,7 +95,7 @@ pub fn scroll(g: Module, mem: &mut [u8], p: Spot, l: usize) -> Spot
 {
     let v = p.view;
     let r = range(v);
-    dots::scroll_up(g, mem, r, l);
+    dots_shift::scroll_up(g, mem, r, l);
     marked(p, r)
 }
 

@@ -1,5 +1,5 @@
 // The move HT over a view: the cursor steps, wraps to the next line of cells, or pushes its rows left.
-// It may use moves for what the moves share, and dots; it knows nothing of characters, windows, settings or how bytes are read.
+// It may use moves for what the moves share, dots and dots_shift; it knows nothing of characters, windows, settings or how bytes are read.
 // Each contract says that what was done is what the paper's move of the same name means.
 use moves::Spot;
 use paper::Module;
@@ -52,7 +52,7 @@ pub fn push_left(g: Module, mem: &mut [u8], p: Spot, c: usize, l: usize) -> Spot
         height: dots::least(l, v.height - y),
         ..moves::range(v)
     };
-    dots::move_left(g, mem, rows, x + 2 * c - width);
+    dots_shift::move_left(g, mem, rows, x + 2 * c - width);
     moves::place(moves::marked(p, rows), width - c, y)
 }
 

@@ -1,11 +1,11 @@
--- `dots::pull_one` meets its contract. Assumes nothing.
+-- `dots_pull::pull_one` meets its contract. Assumes nothing.
 use borrow.Author.Needs.{needs}
 use mathlib.Core.Path.{ap₂}
 use Prim.Native.Nat.{ℕ}
 use native.Mathlib.Omega.{arith}
 use lib.ListN.{getD, set}
-use Rattle.dots.proofs.pull_one.Statement.{statement}
-use Rattle.dots.proofs.pull_one.Tie as tie
+use Rattle.dots_pull.proofs.pull_one.Statement.{statement}
+use Rattle.dots_pull.proofs.pull_one.Tie as tie
 
 returns : tie.Need-returns
 returns c =

@@ -1,4 +1,4 @@
--- `dots::pull` meets its contract. The loop's invariant: the first i rows are taken. Assumes nothing.
+-- `dots_pull::pull` meets its contract. The loop's invariant: the first i rows are taken. Assumes nothing.
 use mathlib.Core.Path.{_≡_, refl}
 use Prim.Native.Nat.{_≤_, _-_}
 use native.Mathlib.Omega.{arith}
@@ -7,8 +7,8 @@ use Rattle.paper.specs.Strokes.{rectAt}
 use Rattle.laws_memory.specs.Rectangles.{pulled}
 use Rattle.laws_memory.proofs.Rects.{rect-none, rect-end}
 use Rattle.laws_memory.proofs.Pulls.{pull-turn}
-use Rattle.dots.proofs.pull.Statement.{statement}
-use Rattle.dots.proofs.pull.Tie as tie
+use Rattle.dots_pull.proofs.pull.Statement.{statement}
+use Rattle.dots_pull.proofs.pull.Tie as tie
 
 abbrev Inv-loop : tie.InvT-loop
 Inv-loop g mem₀ r right down i₀ height mem i =

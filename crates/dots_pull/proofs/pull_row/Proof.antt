@@ -1,4 +1,4 @@
--- `dots::pull_row` meets its contract. The loop's invariant: the first k pairs of columns are taken. Assumes nothing.
+-- `dots_pull::pull_row` meets its contract. The loop's invariant: the first k pairs of columns are taken. Assumes nothing.
 use mathlib.Core.Path.{_≡_, refl, ap, _∙_}
 use mathlib.Core.List.{List}
 use Prim.Native.Nat.{ℕ, _*_, _/_, _≤_, _-_}
@@ -8,8 +8,8 @@ use Rattle.paper.specs.Strokes.{rectAt}
 use Rattle.laws_memory.specs.Rectangles.{pulled}
 use Rattle.laws_memory.proofs.Rects.{rect-none}
 use Rattle.laws_memory.proofs.Pulls.{pull-row-turn}
-use Rattle.dots.proofs.pull_row.Statement.{statement}
-use Rattle.dots.proofs.pull_row.Tie as tie
+use Rattle.dots_pull.proofs.pull_row.Statement.{statement}
+use Rattle.dots_pull.proofs.pull_row.Tie as tie
 
 abbrev Inv-loop : tie.InvT-loop
 Inv-loop g mem₀ left y width right down k₀ k-end mem k =

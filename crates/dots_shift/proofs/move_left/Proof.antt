@@ -1,9 +1,9 @@
--- `dots::move_left` meets its contract. The columns kept come from the right; the rest is zeroed. Assumes nothing.
+-- `dots_shift::move_left` meets its contract. The columns kept come from the right; the rest is zeroed. Assumes nothing.
 use borrow.Author.Needs.{needs}
 use native.Mathlib.Omega.{arith}
 use Rattle.laws_memory.proofs.Pulls.{moved-parts}
-use Rattle.dots.proofs.move_left.Statement.{statement}
-use Rattle.dots.proofs.move_left.Tie as tie
+use Rattle.dots_shift.proofs.move_left.Statement.{statement}
+use Rattle.dots_shift.proofs.move_left.Tie as tie
 
 returns : tie.Need-returns
 returns c =

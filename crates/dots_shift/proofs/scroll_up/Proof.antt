@@ -1,9 +1,9 @@
--- `dots::scroll_up` meets its contract. The rows kept come from below; the rest is zeroed. Assumes nothing.
+-- `dots_shift::scroll_up` meets its contract. The rows kept come from below; the rest is zeroed. Assumes nothing.
 use borrow.Author.Needs.{needs}
 use native.Mathlib.Omega.{arith}
 use Rattle.laws_memory.proofs.Pulls.{scrolled-parts}
-use Rattle.dots.proofs.scroll_up.Statement.{statement}
-use Rattle.dots.proofs.scroll_up.Tie as tie
+use Rattle.dots_shift.proofs.scroll_up.Statement.{statement}
+use Rattle.dots_shift.proofs.scroll_up.Tie as tie
 
 returns : tie.Need-returns
 returns c =
