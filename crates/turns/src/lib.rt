@@ -1,22 +1,18 @@
 // Turns: what one turn of the loop over a piece feeds: a light stretch, a run of an image's bytes, or the bytes of a command.
-// It may use turns_light and runs_images for stretches, reading for what bytes complete and carry for what that does. It alone counts
+// It may use turns_light and runs_images for stretches, turns_gather for what bytes complete and carry for what that does. It alone counts
 // what commands came to. Its contract says that feeding the bytes one by one comes to the same.
 use paper::Fed;
 use paper::Half;
 use paper::Module;
 use paper::Outcome;
-use paper::Reading;
 use paper::State;
 use turns_light::Turn;
 ghost use mathlib.Core.Path.{_≡_};
-ghost use mathlib.Core.Bool.{true, false};
+ghost use mathlib.Core.Bool.{false};
 ghost use mathlib.Core.List.{List};
-ghost use Prim.Native.Nat.{ℕ, _<_, _≤_};
-ghost use lib.ListN.{length, drop};
-ghost use Rattle.paper.specs.Bounds.{halfOk};
-ghost use Rattle.carry.specs.Heavy.{heavy};
+ghost use Prim.Native.Nat.{ℕ};
 ghost use Rattle.turns_light.specs.Halves.{isImage};
-ghost use Rattle.turns_light.specs.Turns.{lightStart, lightAt, Gathers, Due, Turned};
+ghost use Rattle.turns_light.specs.Turns.{lightAt, Due, Turned};
 
 // An image's byte and those that follow it.
 fn feed_image(
@@ -74,53 +70,6 @@ fn feed_image(
     Turn { fed, at }
 }
 
-// Whether an image's data is half read.
-fn is_image(half: Half) -> bool
-    ensures { λ r. ⌜ r ≡ isImage half ⌝ }
-{
-    match half {
-        Half::ImageData { .. } => true,
-        _ => false,
-    }
-}
-
-// What the bytes of a command came to: what the last of them gave, and the place after it.
-struct Gathered {
-    reading: Reading,
-    at: usize,
-}
-
-// The bytes of a command from `from` on, up to the one that completes it, the one before an image's data, or the piece's end. It knows
-// no state: one is touched once for each command and not for each of its bytes.
-fn gather(g: Module, half: Half, piece: &[u8], from: usize) -> Gathered
-    requires { ⌜ (from < length (now piece)) × (halfOk g half ≡ true) × (isImage half ≡ false) ⌝ }
-    ensures { λ r. ⌜ (from < r .at) × (r .at ≤ length (now (piece .entry)))
-        × Gathers g (Reading.More half) (drop from (now (piece .entry))) (r .reading) (drop (r .at) (now (piece .entry)))
-        × (heavy (lightStart half (now (piece .entry)) from) (r .reading) ≡ true) ⌝ }
-{
-    let mut h = half;
-    let mut i = from;
-    while i < piece.len() {
-        let r = reading::read(g, h, piece[i]);
-        i += 1;
-        match r {
-            Reading::More(next) => {
-                if is_image(next) {
-                    return Gathered { reading: r, at: i };
-                }
-                h = next;
-            }
-            _ => {
-                return Gathered { reading: r, at: i };
-            }
-        }
-    }
-    Gathered {
-        reading: Reading::More(h),
-        at: i,
-    }
-}
-
 // The bytes of a command that is not light: carried out, and counted.
 fn feed_command(
     g: Module,
@@ -138,7 +87,7 @@ fn feed_command(
 {
     let before = f.state;
     let half = before.half;
-    let r = gather(g, half, piece, i);
+    let r = turns_gather::gather(g, half, piece, i);
     let reading = r.reading;
     let at = r.at;
     let d = carry::take(g, mem, store, before, reading);

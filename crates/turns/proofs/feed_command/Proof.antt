@@ -7,7 +7,7 @@ use Rattle.laws_state.proofs.Parts.{parts}
 use Rattle.paper.specs.Downloads.{faces}
 use Rattle.paper.specs.Carry.{exceeds, takeOf, takeStore}
 use Rattle.turns.proofs.Counts.{carried-one, answered-one, counted-by}
-use Rattle.turns.proofs.Onward.{heavy-where}
+use Rattle.turns_gather.proofs.Onward.{heavy-where}
 use Rattle.turns_light.specs.Turns.{lightStart}
 use Rattle.turns_light.proofs.Lightness.{not-light}
 use Rattle.turns_light.proofs.Gathering.{gathers-ok, taken-reached}

@@ -1,9 +1,9 @@
--- `turns::is_image` meets its contract. Assumes nothing.
+-- `turns_gather::is_image` meets its contract. Assumes nothing.
 use mathlib.Core.Path.{sym}
 use Rattle.turns_light.specs.Halves.{isImage}
-use Rattle.turns.proofs.Onward.{no-image}
-use Rattle.turns.proofs.is_image.Statement.{statement}
-use Rattle.turns.proofs.is_image.Tie as tie
+use Rattle.turns_gather.proofs.Onward.{no-image}
+use Rattle.turns_gather.proofs.is_image.Statement.{statement}
+use Rattle.turns_gather.proofs.is_image.Tie as tie
 
 pub is-image-spec : {M : Type 1} → statement M
 unfolding isImage

@@ -1,4 +1,4 @@
--- `turns::gather` meets its contract. The loop's invariant: the bytes so far leave the command half read, and it goes on.
+-- `turns_gather::gather` meets its contract. The loop's invariant: the bytes so far leave the command half read, and it goes on.
 -- Assumes nothing.
 use borrow.Author.Needs.{needs}
 use mathlib.Core.Path.{refl, sym, _∙_}
@@ -10,9 +10,9 @@ use Rattle.laws_bytes.specs.Readings.{readingOk}
 use Rattle.turns_light.specs.Turns.{Gathers, here}
 use Rattle.carry.specs.Heavy.{heavy}
 use Rattle.turns_light.proofs.Gathering.{gathers-read, gathers-ok}
-use Rattle.turns.proofs.Onward.{Onward, onward-reads, onward-next}
-use Rattle.turns.proofs.gather.Statement.{statement}
-use Rattle.turns.proofs.gather.Tie as tie
+use Rattle.turns_gather.proofs.Onward.{Onward, onward-reads, onward-next}
+use Rattle.turns_gather.proofs.gather.Statement.{statement}
+use Rattle.turns_gather.proofs.gather.Tie as tie
 
 abbrev Inv-loop : tie.InvT-loop
 Inv-loop g piece from h₀ i₀ h i =

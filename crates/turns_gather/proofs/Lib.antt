@@ -1,0 +1,2 @@
+-- What bytes are read as, one after the other.
+pub mod Onward
