@@ -1,8 +1,7 @@
-// The record, its half-read part: what is half read, laid flat as a case's number and its parameters, and back. No case of an enum
-// crosses to C.
+// The record, its half-read part: what is half read, laid flat as a case's number and its parameters. No case of an enum crosses to C.
 // It uses the paper, and reading_define for columns of which none has come; docs/RECORD.md has the numbers.
 ghost use mathlib.Core.Path.{_≡_};
-ghost use Rattle.record_half.specs.Slots.{words, bytes, keyNumber, keyOf, wordSlots, wordOf, noteNumber, batchSlots, halfSlots, halfOf};
+ghost use Rattle.record_half.specs.Slots.{words, bytes, keyNumber, wordSlots, noteNumber, batchSlots, halfSlots};
 use paper::Batch;
 use paper::Columns;
 use paper::Half;
@@ -69,24 +68,6 @@ fn key_number(key: Key) -> u8
     }
 }
 
-// The setting of a number; what numbers none is taken for the first, whose number is another.
-fn key_of(n: u8) -> Key
-    ensures { λ r. ⌜ r ≡ keyOf n ⌝ }
-{
-    match n {
-        1 => Key::Codes,
-        2 => Key::Caret,
-        3 => Key::Brightness,
-        4 => Key::Reverse,
-        5 => Key::Speed,
-        6 => Key::Mixing,
-        7 => Key::Width,
-        8 => Key::Write,
-        9 => Key::Switch,
-        _ => Key::Charset,
-    }
-}
-
 // ---- a 16-bit parameter
 
 // An awaited 16-bit parameter in a case: its number in a, the window in b, its low byte in c, the parameters before it in p, q, r.
@@ -107,27 +88,6 @@ fn word_slots(case: u8, low: u8, word: Word) -> Slots
         } => wide(case, 5, a, low, left, top, width, 0),
         Word::ImageWidth => narrow(case, 6, 0, low),
         Word::ImageHeight { width } => wide(case, 7, 0, low, width, 0, 0, 0),
-    }
-}
-
-// The awaited 16-bit parameter that slots say.
-fn word_of(n: u8, a: u8, p: u16, q: u16, r: u16) -> Word
-    ensures { λ w. ⌜ w ≡ wordOf n a p q r ⌝ }
-{
-    match n {
-        1 => Word::CursorY { x: p },
-        2 => Word::WindowLeft { a },
-        3 => Word::WindowTop { a, left: p },
-        4 => Word::WindowWidth { a, left: p, top: q },
-        5 => Word::WindowHeight {
-            a,
-            left: p,
-            top: q,
-            width: r,
-        },
-        6 => Word::ImageWidth,
-        7 => Word::ImageHeight { width: p },
-        _ => Word::CursorX,
     }
 }
 
@@ -208,71 +168,5 @@ pub fn half_slots(half: Half) -> Slots
         Half::WindowB { a } => narrow(23, a, 0, 0),
         Half::EraseA => narrow(24, 0, 0, 0),
         Half::EraseCode { a } => narrow(25, a, 0, 0),
-    }
-}
-
-// What is half read, from its slots; what numbers no case is taken for nothing, whose number is another.
-pub fn half_of(t: Slots) -> Half
-    ensures { λ h. ⌜ h ≡ halfOf t ⌝ }
-{
-    let case = t.case;
-    let a = t.a;
-    let b = t.b;
-    let c = t.c;
-    let d = t.d;
-    let p = t.p;
-    let q = t.q;
-    let r = t.r;
-    let s = t.s;
-    let columns = t.columns;
-    // a define's codes, and its note of a drop: a byte other than 1 is taken for none, whose number is another
-    let batch = Batch {
-        first: a,
-        code: b,
-        last: c,
-    };
-    let dropped = d == 1;
-    match case {
-        1 => Half::Escape,
-        2 => Half::Unit,
-        3 => Half::Group,
-        4 => Half::Actions,
-        5 => Half::Images,
-        6 => Half::Characters,
-        7 => Half::Windows,
-        8 => Half::Value(key_of(a)),
-        9 => Half::Rest { left: a },
-        10 => Half::DownloadA,
-        11 => Half::DownloadFrom,
-        12 => Half::DownloadTo { from: a },
-        13 => Half::GlyphWidth { batch, dropped },
-        14 => Half::GlyphByte {
-            batch,
-            dropped,
-            columns,
-        },
-        15 => Half::Low(word_of(a, b, p, q, r)),
-        16 => Half::High {
-            word: word_of(a, b, p, q, r),
-            low: c,
-        },
-        17 => Half::ImageKind {
-            width: p,
-            height: q,
-        },
-        18 => Half::ImageData {
-            width: p,
-            height: q,
-            column: r,
-            row: s,
-        },
-        19 => Half::EnlargeX,
-        20 => Half::EnlargeY { x: a },
-        21 => Half::SelectA,
-        22 => Half::WindowA,
-        23 => Half::WindowB { a },
-        24 => Half::EraseA,
-        25 => Half::EraseCode { a },
-        _ => Half::Nothing,
     }
 }

@@ -1,7 +1,7 @@
 // The record read: the state that its first 115 bytes stand for; the downloads, which follow, are read as they are. docs/RECORD.md has
 // the layout.
-// It uses the paper, record_parts for what the bytes give, record_half for what is half read, and record_bytes, to see whether the
-// bytes are those of a state.
+// It uses the paper, record_parts for what the bytes give, record_half and record_back for what is half read, and record_bytes, to see
+// whether the bytes are those of a state.
 ghost use mathlib.Core.Path.{_≡_};
 ghost use mathlib.Core.Bool.{true};
 ghost use Prim.Native.Nat.{_+_, _≤_};
@@ -62,7 +62,7 @@ pub fn state_of(l: &[u8]) -> State
         return s;
     }
     let hold = record_parts::hold_at(l, AT_HOLD);
-    let half = record_half::half_of(record_parts::slots_at(l, AT_HALF));
+    let half = record_back::half_of(record_parts::slots_at(l, AT_HALF));
     if is_written(l, hold, half) {
         return State { hold, half, ..s };
     }

@@ -1,8 +1,8 @@
 -- `word_of` meets its contract: an arm for each number, and one for the rest. Assumes nothing.
 use borrow.Author.Tests.{ne-eqb}
 use Rattle.record_half.specs.Slots.{wordOf}
-use Rattle.record_half.proofs.word_of.Statement.{statement}
-use Rattle.record_half.proofs.word_of.Tie as tie
+use Rattle.record_back.proofs.word_of.Statement.{statement}
+use Rattle.record_back.proofs.word_of.Tie as tie
 
 pub word-of-spec : {M : Type 1} → statement M
 unfolding wordOf

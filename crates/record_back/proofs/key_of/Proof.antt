@@ -1,8 +1,8 @@
 -- `key_of` meets its contract: an arm for each number, and one for the rest. Assumes nothing.
 use borrow.Author.Tests.{ne-eqb}
 use Rattle.record_half.specs.Slots.{keyOf}
-use Rattle.record_half.proofs.key_of.Statement.{statement}
-use Rattle.record_half.proofs.key_of.Tie as tie
+use Rattle.record_back.proofs.key_of.Statement.{statement}
+use Rattle.record_back.proofs.key_of.Tie as tie
 
 pub key-of-spec : {M : Type 1} → statement M
 unfolding keyOf

@@ -1,8 +1,8 @@
 -- `half_of` meets its contract: an arm for each number, and one for the rest. Assumes nothing.
 use borrow.Author.Tests.{ne-eqb}
 use Rattle.record_half.specs.Slots.{halfOf}
-use Rattle.record_half.proofs.half_of.Statement.{statement}
-use Rattle.record_half.proofs.half_of.Tie as tie
+use Rattle.record_back.proofs.half_of.Statement.{statement}
+use Rattle.record_back.proofs.half_of.Tie as tie
 
 pub half-of-spec : {M : Type 1} → statement M
 unfolding halfOf
