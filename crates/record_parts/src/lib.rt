@@ -1,31 +1,18 @@
-// The parts of a state's bytes: the state that they give, read by their places. docs/RECORD.md has the layout.
-// It uses the paper, numbers for a 16-bit number, record_half for what is half read, and record_bytes for the places.
+// The parts of a state's bytes that a call tests or hands on: settings, what is held, what is half read. docs/RECORD.md has the layout.
+// It uses the paper, numbers for a 16-bit number, record_half for what is half read, and record_bytes for the lengths.
 ghost use mathlib.Core.Path.{_≡_};
 ghost use Prim.Native.Nat.{_+_, _≤_};
 ghost use lib.ListN.{length};
-ghost use Rattle.record_bytes.specs.Bytes.{settingsLength, cursorLength, windowLength, holdLength, columnsLength, halfLength, spanLength, stateLength};
-ghost use Rattle.record_parts.specs.Parts.{wordAt, settingsAt, cursorAt, windowFrom, spanAt, holdAt, columnsAt, slotsAt, decodedWith};
+ghost use Rattle.record_bytes.specs.Bytes.{settingsLength, holdLength, columnsLength, halfLength};
+ghost use Rattle.record_parts.specs.Parts.{wordAt, settingsAt, holdAt, columnsAt, slotsAt};
 use paper::Columns;
-use paper::Cursor;
-use paper::Half;
 use paper::Hold;
 use paper::Settings;
-use paper::Span;
-use paper::State;
 use paper::Style;
-use paper::Window;
-use record_bytes::AT_BASE;
-use record_bytes::AT_FIRST;
-use record_bytes::AT_FOURTH;
-use record_bytes::AT_LOWER;
-use record_bytes::AT_SECOND;
-use record_bytes::AT_SELECTED;
-use record_bytes::AT_THIRD;
-use record_bytes::AT_UPPER;
 use record_half::Slots;
 
 // A 16-bit number.
-fn word_at(l: &[u8], i: usize) -> u16
+pub fn word_at(l: &[u8], i: usize) -> u16
     requires { ⌜ i + 2 ≤ length (now l) ⌝ }
     ensures { λ n. ⌜ n ≡ wordAt (now (l .entry)) i ⌝ }
 {
@@ -33,7 +20,7 @@ fn word_at(l: &[u8], i: usize) -> u16
 }
 
 // The settings.
-fn settings_at(l: &[u8], i: usize) -> Settings
+pub fn settings_at(l: &[u8], i: usize) -> Settings
     requires { ⌜ i + settingsLength ≤ length (now l) ⌝ }
     ensures { λ v. ⌜ v ≡ settingsAt (now (l .entry)) i ⌝ }
 {
@@ -53,44 +40,6 @@ fn settings_at(l: &[u8], i: usize) -> Settings
         write: l[i + 6],
         switch: l[i + 7],
         style,
-    }
-}
-
-// A cursor and its mode.
-fn cursor_at(l: &[u8], i: usize) -> Cursor
-    requires { ⌜ i + cursorLength ≤ length (now l) ⌝ }
-    ensures { λ k. ⌜ k ≡ cursorAt (now (l .entry)) i ⌝ }
-{
-    Cursor {
-        x: word_at(l, i),
-        y: word_at(l, i + 2),
-        mode: l[i + 4],
-    }
-}
-
-// A user window.
-fn window_from(l: &[u8], i: usize) -> Window
-    requires { ⌜ i + windowLength ≤ length (now l) ⌝ }
-    ensures { λ w. ⌜ w ≡ windowFrom (now (l .entry)) i ⌝ }
-{
-    let cursor = cursor_at(l, i + 8);
-    Window {
-        left: word_at(l, i),
-        top: word_at(l, i + 2),
-        width: word_at(l, i + 4),
-        height: word_at(l, i + 6),
-        cursor,
-    }
-}
-
-// A span.
-fn span_at(l: &[u8], i: usize) -> Span
-    requires { ⌜ i + spanLength ≤ length (now l) ⌝ }
-    ensures { λ p. ⌜ p ≡ spanAt (now (l .entry)) i ⌝ }
-{
-    Span {
-        first: word_at(l, i),
-        end: word_at(l, i + 2),
     }
 }
 
@@ -144,29 +93,5 @@ pub fn slots_at(l: &[u8], i: usize) -> Slots
         r: word_at(l, i + 9),
         s: word_at(l, i + 11),
         columns: columns_at(l, i + 13),
-    }
-}
-
-// The state that bytes give, with this held and this half read.
-pub fn decode_with(l: &[u8], hold: Hold, half: Half) -> State
-    requires { ⌜ length (now l) ≡ stateLength ⌝ }
-    ensures { λ s. ⌜ s ≡ decodedWith (now (l .entry)) hold half ⌝ }
-{
-    let settings = settings_at(l, 0);
-    let a = window_from(l, AT_FIRST);
-    let b = window_from(l, AT_SECOND);
-    let c = window_from(l, AT_THIRD);
-    let d = window_from(l, AT_FOURTH);
-    let base = cursor_at(l, AT_BASE);
-    let p = span_at(l, AT_UPPER);
-    let q = span_at(l, AT_LOWER);
-    State {
-        settings,
-        windows: [a, b, c, d],
-        base,
-        selected: l[AT_SELECTED],
-        hold,
-        half,
-        spans: [p, q],
     }
 }

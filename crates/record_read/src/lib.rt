@@ -1,7 +1,7 @@
 // The record read: the state that its first 115 bytes stand for; the downloads, which follow, are read as they are. docs/RECORD.md has
 // the layout.
-// It uses the paper, record_parts for what the bytes give, record_half and record_back for what is half read, and record_bytes, to see
-// whether the bytes are those of a state.
+// It uses the paper, record_parts and record_state for what the bytes give, record_half and record_back for what is half read, and
+// record_bytes, to see whether the bytes are those of a state.
 ghost use mathlib.Core.Path.{_≡_};
 ghost use mathlib.Core.Bool.{true};
 ghost use Prim.Native.Nat.{_+_, _≤_};
@@ -57,7 +57,7 @@ pub fn state_of(l: &[u8]) -> State
     requires { ⌜ length (now l) ≡ stateLength ⌝ }
     ensures { λ s. ⌜ s ≡ stateOf (now (l .entry)) ⌝ }
 {
-    let s = record_parts::decode_with(l, Hold::Free, Half::Nothing);
+    let s = record_state::decode_with(l, Hold::Free, Half::Nothing);
     if is_idle(l) {
         return s;
     }

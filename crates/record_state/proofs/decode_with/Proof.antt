@@ -1,8 +1,8 @@
 -- `decode_with` meets its contract. Assumes nothing.
 use borrow.Author.Needs.{needs}
 use native.Mathlib.Omega.{arith}
-use Rattle.record_parts.proofs.decode_with.Statement.{statement}
-use Rattle.record_parts.proofs.decode_with.Tie as tie
+use Rattle.record_state.proofs.decode_with.Statement.{statement}
+use Rattle.record_state.proofs.decode_with.Tie as tie
 
 returns : tie.Need-returns
 returns c =

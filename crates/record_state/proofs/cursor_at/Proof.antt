@@ -1,8 +1,8 @@
 -- `cursor_at` meets its contract. Assumes nothing.
 use borrow.Author.Needs.{needs}
 use Rattle.record_parts.specs.Parts.{cursorAt}
-use Rattle.record_parts.proofs.cursor_at.Statement.{statement}
-use Rattle.record_parts.proofs.cursor_at.Tie as tie
+use Rattle.record_state.proofs.cursor_at.Statement.{statement}
+use Rattle.record_state.proofs.cursor_at.Tie as tie
 
 pub cursor-at-spec : {M : Type 1} → statement M
 unfolding cursorAt

@@ -1,8 +1,8 @@
 -- `window_from` meets its contract. Assumes nothing.
 use borrow.Author.Needs.{needs}
 use Rattle.record_parts.specs.Parts.{windowFrom}
-use Rattle.record_parts.proofs.window_from.Statement.{statement}
-use Rattle.record_parts.proofs.window_from.Tie as tie
+use Rattle.record_state.proofs.window_from.Statement.{statement}
+use Rattle.record_state.proofs.window_from.Tie as tie
 
 pub window-from-spec : {M : Type 1} → statement M
 unfolding windowFrom

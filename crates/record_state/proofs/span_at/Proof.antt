@@ -1,8 +1,8 @@
 -- `span_at` meets its contract. Assumes nothing.
 use borrow.Author.Needs.{needs}
 use Rattle.record_parts.specs.Parts.{spanAt}
-use Rattle.record_parts.proofs.span_at.Statement.{statement}
-use Rattle.record_parts.proofs.span_at.Tie as tie
+use Rattle.record_state.proofs.span_at.Statement.{statement}
+use Rattle.record_state.proofs.span_at.Tie as tie
 
 pub span-at-spec : {M : Type 1} → statement M
 unfolding spanAt
