@@ -1,15 +1,14 @@
 // Hold and release, for any module: what is refused, in its order, and the state that each leaves.
-// It may use accept for the state's test and state for whether a window is held. Neither call asks anything of its caller.
+// It may use accept for the state's test, state for whether a window is held and state_held for what becomes of it. Neither call asks
+// anything of its caller.
 use paper::Answer;
-use paper::Half;
-use paper::Hold;
 use paper::Module;
 use paper::Refusal;
 use paper::State;
 ghost use mathlib.Core.Path.{_≡_};
 ghost use Prim.Native.Nat.{_≤_};
 ghost use Rattle.paper.specs.Settings.{windowAt, isDefined};
-ghost use Rattle.paper.specs.Calls.{answer, heldBy, holdCall, putBack, releaseCall};
+ghost use Rattle.paper.specs.Calls.{answer, holdCall, releaseCall};
 
 // A call answered so.
 fn answers(refusal: Refusal, state: State) -> Answer
@@ -28,25 +27,6 @@ fn is_defined(s: State, k: usize) -> bool
     0 < w.width
 }
 
-// The state with user window k held: what is half read is dropped, settings and selection are saved.
-fn held_by(s: State, k: u8) -> State
-    ensures { λ r. ⌜ r ≡ heldBy s k ⌝ }
-{
-    let settings = s.settings;
-    let hold = Hold::Held {
-        window: k,
-        selected: s.selected,
-        settings,
-    };
-    let half = Half::Nothing;
-    State {
-        selected: k,
-        hold,
-        half,
-        ..s
-    }
-}
-
 // Holds user window k. 8: the state breaks a bound; 6: a window is held; 4: k is not 1 to 4; 5: window k is not defined.
 pub fn hold(g: Module, store: &[u8], s: State, k: usize) -> Answer
     ensures { λ r. ⌜ r ≡ holdCall g s (now (store .entry)) k ⌝ }
@@ -62,33 +42,9 @@ pub fn hold(g: Module, store: &[u8], s: State, k: usize) -> Answer
         return answers(Refusal::NoSuchWindow, s);
     }
     if is_defined(s, k) {
-        return answers(Refusal::Accepted, held_by(s, k as u8));
+        return answers(Refusal::Accepted, state_held::held_by(s, k as u8));
     }
     answers(Refusal::UndefinedWindow, s)
-}
-
-// The state with nothing held: what is half read is dropped, the saved settings and selection are put back.
-fn put_back(s: State, h: Hold) -> State
-    ensures { λ r. ⌜ r ≡ putBack s h ⌝ }
-{
-    match h {
-        Hold::Free => s,
-        Hold::Held {
-            window: _,
-            selected,
-            settings,
-        } => {
-            let back = settings;
-            let dropped = Half::Nothing;
-            State {
-                settings: back,
-                selected,
-                hold: Hold::Free,
-                half: dropped,
-                ..s
-            }
-        }
-    }
 }
 
 // Releases the held window. 8: the state breaks a bound; 7: no window is held.
@@ -100,7 +56,7 @@ pub fn release(g: Module, store: &[u8], s: State) -> Answer
     }
     let h = s.hold;
     if state::is_held(h) {
-        return answers(Refusal::Accepted, put_back(s, h));
+        return answers(Refusal::Accepted, state_held::put_back(s, h));
     }
     answers(Refusal::NotHeld, s)
 }

@@ -1,4 +1,4 @@
--- `calls_hold::put_back` meets its contract. Assumes nothing.
+-- `state_held::put_back` meets its contract. Assumes nothing.
 use borrow.Author.Needs.{needs}
 use mathlib.Core.Path.{_≡_}
 use Prim.Native.Nat.{ℕ}
@@ -9,8 +9,8 @@ use Rattle.paper.specs.declared.Settings.{Settings}
 use Rattle.paper.specs.declared.State.{State}
 use Rattle.paper.specs.Settings.{withSettings, withSelected, withHold, withHalf}
 use Rattle.paper.specs.Calls.{putBack}
-use Rattle.calls_hold.proofs.put_back.Statement.{statement}
-use Rattle.calls_hold.proofs.put_back.Tie as tie
+use Rattle.state_held.proofs.put_back.Statement.{statement}
+use Rattle.state_held.proofs.put_back.Tie as tie
 
 -- what is put back when a window is held
 put-held : (s : State) (h : Hold) (k back : ℕ) (v : Settings) → h ≡ Held k back v

@@ -1,8 +1,8 @@
--- `calls_hold::held_by` meets its contract. Assumes nothing.
+-- `state_held::held_by` meets its contract. Assumes nothing.
 use mathlib.Core.Path.{refl}
 use Rattle.paper.specs.Calls.{heldBy}
-use Rattle.calls_hold.proofs.held_by.Statement.{statement}
-use Rattle.calls_hold.proofs.held_by.Tie as tie
+use Rattle.state_held.proofs.held_by.Statement.{statement}
+use Rattle.state_held.proofs.held_by.Tie as tie
 
 returns : tie.Need-returns
 unfolding heldBy
