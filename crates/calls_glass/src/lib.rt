@@ -1,39 +1,15 @@
-// Start and refresh, for any usable module: what is refused, in its order, and the memory, the downloads and the glass that each
-// leaves.
-// It may use modules for the lengths, state for the initial one, accept for the state's test, dots for the memory,
-// downloads_write for the end of the downloads and glass for what is copied to the glass.
-use paper::Answer;
+// Refresh, for any usable module: what is refused, in its order, and the glass that it leaves.
+// It may use modules for the lengths, state for spans that are empty, accept for the state's test and glass for what is copied to the
+// glass.
 use paper::Module;
 use paper::Refreshed;
 use paper::Refusal;
 use paper::State;
 ghost use mathlib.Core.Path.{_≡_};
 ghost use mathlib.Core.List.{[]};
-ghost use Rattle.paper.specs.Calls.{startCall, refreshing, refreshCall};
+ghost use Rattle.paper.specs.Calls.{refreshing, refreshCall};
 ghost use Rattle.laws_state.specs.Room.{Usable};
-ghost use Rattle.laws_state.specs.Told.{started, refreshed};
-
-// The initial state with no download, the memory zeroed and all of it marked as written. 1: the memory has not its length.
-pub fn start(g: Module, mem: &mut [u8], store: &mut [u8]) -> Answer
-    requires { ⌜ Usable g × (g .rows ≡ 2) ⌝ }
-    ensures { λ r. ⌜ started r (now (mem .exit)) (now (store .exit)) ≡ startCall g (now (mem .entry)) (now (store .entry)) ⌝ }
-{
-    downloads_write::erase_all(store);
-    let t = state::initial_state(g);
-    if mem.len() != modules::memory_length(g) {
-        return Answer {
-            refusal: Refusal::MemoryLength,
-            state: t,
-        };
-    }
-    let none = t.spans;
-    let spans = dots::erase(g, mem, none);
-    let state = State { spans, ..t };
-    Answer {
-        refusal: Refusal::Accepted,
-        state,
-    }
-}
+ghost use Rattle.laws_state.specs.Told.{refreshed};
 
 // A refresh answered so.
 fn moves(refusal: Refusal, state: State, moved: usize) -> Refreshed

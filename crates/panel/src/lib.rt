@@ -1,5 +1,5 @@
 // The panel: document 01's five calls, for the 112 by 16 module. No call has a `requires`. `store` are the state's downloads.
-// It uses modules for the module's value, and the calls of calls_glass, calls_feed and calls_hold for it.
+// It uses modules for the module's value, and the calls of calls_start, calls_glass, calls_feed and calls_hold for it.
 // Each call's contract is one line: what it answers and leaves is the paper's definition of that call.
 use paper::Answer;
 use paper::Fed;
@@ -14,7 +14,7 @@ ghost use Rattle.laws_state.specs.Told.{started, fed, refreshed};
 pub fn start(mem: &mut [u8], store: &mut [u8]) -> Answer
     ensures { λ r. ⌜ started r (now (mem .exit)) (now (store .exit)) ≡ startCall panel (now (mem .entry)) (now (store .entry)) ⌝ }
 {
-    calls_glass::start(modules::small(), mem, store)
+    calls_start::start(modules::small(), mem, store)
 }
 
 // A piece of the stream. 1: the memory is not 1,024 bytes; 2: the font is not 1,120; 8: the state breaks a bound.

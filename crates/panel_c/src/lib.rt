@@ -1,7 +1,7 @@
 // The C face: document 01's five calls over byte slices, for the 112 by 16 module, the state and its downloads as a record of 259
 // bytes. No call has a `requires`. include/panel.h declares it.
-// It may use modules for the module's value, and the calls of face_glass, face_hold and calls_feed for it; for a feed also record_read
-// and face for the record, numbers for the answers.
+// It may use modules for the module's value, and the calls of face_start, face_glass, face_hold and calls_feed for it; for a feed also
+// record_read and face for the record, numbers for the answers.
 // Each contract is one line: what a call answers and leaves is the definition of that call in face's specs/Face.antt.
 use face::PanelFed;
 use face::PanelRefreshed;
@@ -17,7 +17,7 @@ ghost use Rattle.face.specs.Face.{starting, startC, feeding, feedC, calling, ho
 pub extern "C" fn panel_start(state: &mut [u8], mem: &mut [u8]) -> u32
     ensures { λ r. ⌜ starting r (now (state .exit)) (now (mem .exit)) ≡ startC panel (now (state .entry)) (now (mem .entry)) ⌝ }
 {
-    face_glass::start(modules::small(), state, mem)
+    face_start::start(modules::small(), state, mem)
 }
 
 // Feeds a piece of the stream. 100: the record is not 259 bytes; then 1, 2, 8.

@@ -1,11 +1,11 @@
--- `calls_glass::start` meets its contract: 1, or all of the memory erased; every download is gone. Assumes nothing.
+-- `calls_start::start` meets its contract: 1, or all of the memory erased; every download is gone. Assumes nothing.
 use borrow.Author.Needs.{needs}
 use mathlib.Core.Path.{_≡_, sym, _∙_}
 use lib.ListN.{length}
 use Rattle.paper.specs.Panel.{memoryLength}
-use Rattle.calls_glass.proofs.Glass.{start-refused, start-accepted}
-use Rattle.calls_glass.proofs.start.Statement.{statement}
-use Rattle.calls_glass.proofs.start.Tie as tie
+use Rattle.calls_start.proofs.Starts.{start-refused, start-accepted}
+use Rattle.calls_start.proofs.start.Statement.{statement}
+use Rattle.calls_start.proofs.start.Tie as tie
 
 returns : tie.Need-returns
 returns c =

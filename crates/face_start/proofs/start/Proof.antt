@@ -1,12 +1,12 @@
--- `face_glass::start` meets its contract: a record of another length, or one that is written. Assumes nothing.
+-- `face_start::start` meets its contract: a record of another length, or one that is written. Assumes nothing.
 use denote.Ref.{now}
 use borrow.Author.Needs.{needs}
 use mathlib.Core.Path.{sym, ap₂}
 use mathlib.Core.List.{_++_}
 use Rattle.face.proofs.Parts.{state-still, store-lent, store-in}
 use Rattle.face.proofs.Calls.{start-length, start-told}
-use Rattle.face_glass.proofs.start.Statement.{statement}
-use Rattle.face_glass.proofs.start.Tie as tie
+use Rattle.face_start.proofs.start.Statement.{statement}
+use Rattle.face_start.proofs.start.Tie as tie
 
 returns : tie.Need-returns
 returns c =
