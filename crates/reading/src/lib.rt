@@ -1,8 +1,8 @@
 // What a byte gives to a half-read command: document 01, "How bytes are read".
 // There is no state and no memory here: a command that is whole, an image byte with its place, a download that has come whole, or
 // what is awaited next.
-// It uses the paper and the numbers, reading_codes for a byte of the code, reading_words for one of a parameter and reading_define for one
-// of a download. `read` is its one call, with an arm for each case of what is half read.
+// It uses the paper and the numbers, reading_codes and reading_groups for a byte of the code, reading_words for one of a parameter and
+// reading_define for one of a download. `read` is its one call, with an arm for each case of what is half read.
 ghost use mathlib.Core.Path.{_≡_};
 ghost use mathlib.Core.Bool.{true};
 ghost use Rattle.paper.specs.Bounds.{halfOk};
@@ -21,12 +21,12 @@ pub fn read(g: Module, half: Half, b: u8) -> Reading
     match half {
         Half::Nothing => reading_codes::read_first(g, b),
         Half::Escape => reading_codes::read_escape(g, b),
-        Half::Unit => reading_codes::read_unit(b),
-        Half::Group => reading_codes::read_group(b),
-        Half::Actions => reading_codes::read_actions(b),
-        Half::Images => reading_codes::read_images(b),
-        Half::Characters => reading_codes::read_characters(g, b),
-        Half::Windows => reading_codes::read_windows(b),
+        Half::Unit => reading_groups::read_unit(b),
+        Half::Group => reading_groups::read_group(b),
+        Half::Actions => reading_groups::read_actions(b),
+        Half::Images => reading_groups::read_images(b),
+        Half::Characters => reading_groups::read_characters(g, b),
+        Half::Windows => reading_groups::read_windows(b),
         Half::Value(key) => Reading::Whole(Command::Set { key, value: b }),
         Half::Rest { left } => reading_words::read_rest(left),
         Half::DownloadA => reading_codes::more_if(b == 1, Half::DownloadFrom),

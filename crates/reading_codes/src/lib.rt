@@ -1,8 +1,8 @@
-// What a byte of a command's code gives: document 01, "How bytes are read".
+// What a command's first byte gives, and the byte after 1Bh: document 01, "How bytes are read".
 // There is no state and no memory here, and it uses the paper alone. Each read_ function decides one place in a code; the functions
 // above them say what is awaited next, or that the command is cancelled or unknown.
 ghost use mathlib.Core.Path.{_≡_};
-ghost use Rattle.paper.specs.Reading.{moreIf, onlyIf, readMove, readFirst, readEscape, readUnit, readGroup, readActions, readImages, readCharacters, readWindows};
+ghost use Rattle.paper.specs.Reading.{moreIf, onlyIf, readMove, readFirst, readEscape};
 use paper::Command;
 use paper::Half;
 use paper::Key;
@@ -21,7 +21,7 @@ pub fn more_if(ok: bool, half: Half) -> Reading
 }
 
 // A code that not every module knows.
-fn only_if(known: bool, r: Reading) -> Reading
+pub fn only_if(known: bool, r: Reading) -> Reading
     ensures { λ q. ⌜ q ≡ onlyIf known r ⌝ }
 {
     if known {
@@ -31,7 +31,7 @@ fn only_if(known: bool, r: Reading) -> Reading
 }
 
 // The one byte of a setting is awaited.
-fn more_value(key: Key) -> Reading
+pub fn more_value(key: Key) -> Reading
     ensures { λ r. ⌜ r ≡ Reading.More (Half.Value key) ⌝ }
 {
     Reading::More(Half::Value(key))
@@ -90,82 +90,6 @@ pub fn read_escape(g: Module, b: u8) -> Reading
         0x25 => only_if(g.downloads, more_value(Key::Switch)),
         0x3F => only_if(g.downloads, Reading::More(Half::EraseA)),
         0x26 => only_if(g.downloads, Reading::More(Half::DownloadA)),
-        _ => Reading::UnknownCode,
-    }
-}
-
-// After 1Fh.
-pub fn read_unit(b: u8) -> Reading
-    ensures { λ r. ⌜ r ≡ readUnit b ⌝ }
-{
-    match b {
-        0x01..=0x03 => Reading::Whole(Command::Mode(b)),
-        0x24 => more_word(Word::CursorX),
-        0x28 => Reading::More(Half::Group),
-        0x43 => more_value(Key::Caret),
-        0x58 => more_value(Key::Brightness),
-        0x72 => more_value(Key::Reverse),
-        0x73 => more_value(Key::Speed),
-        0x77 => more_value(Key::Mixing),
-        _ => Reading::UnknownCode,
-    }
-}
-
-// After 1Fh 28h.
-pub fn read_group(b: u8) -> Reading
-    ensures { λ r. ⌜ r ≡ readGroup b ⌝ }
-{
-    match b {
-        0x61 => Reading::More(Half::Actions),
-        0x66 => Reading::More(Half::Images),
-        0x67 => Reading::More(Half::Characters),
-        0x77 => Reading::More(Half::Windows),
-        _ => Reading::UnknownCode,
-    }
-}
-
-// After 1Fh 28h 61h: how many parameter bytes follow, unchecked.
-pub fn read_actions(b: u8) -> Reading
-    ensures { λ r. ⌜ r ≡ readActions b ⌝ }
-{
-    match b {
-        0x01 => more_rest(1),
-        0x10 => more_rest(5),
-        0x11 => more_rest(4),
-        0x40 => more_rest(1),
-        _ => Reading::UnknownCode,
-    }
-}
-
-// After 1Fh 28h 66h.
-pub fn read_images(b: u8) -> Reading
-    ensures { λ r. ⌜ r ≡ readImages b ⌝ }
-{
-    match b {
-        0x11 => more_word(Word::ImageWidth),
-        _ => Reading::UnknownCode,
-    }
-}
-
-// After 1Fh 28h 67h.
-pub fn read_characters(g: Module, b: u8) -> Reading
-    ensures { λ r. ⌜ r ≡ readCharacters g b ⌝ }
-{
-    match b {
-        0x03 => only_if(g.widths, more_value(Key::Width)),
-        0x40 => Reading::More(Half::EnlargeX),
-        _ => Reading::UnknownCode,
-    }
-}
-
-// After 1Fh 28h 77h.
-pub fn read_windows(b: u8) -> Reading
-    ensures { λ r. ⌜ r ≡ readWindows b ⌝ }
-{
-    match b {
-        0x01 => Reading::More(Half::SelectA),
-        0x02 => Reading::More(Half::WindowA),
-        0x10 => more_value(Key::Write),
         _ => Reading::UnknownCode,
     }
 }

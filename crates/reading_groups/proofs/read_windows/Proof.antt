@@ -1,8 +1,8 @@
 -- `read_windows` meets its contract: each known byte has its arm, and every other one makes the code unknown. Assumes nothing.
 use Rattle.paper.specs.Reading.{readWindows}
 use Rattle.reading_codes.proofs.Ranges.{differs}
-use Rattle.reading_codes.proofs.read_windows.Statement.{statement}
-use Rattle.reading_codes.proofs.read_windows.Tie as tie
+use Rattle.reading_groups.proofs.read_windows.Statement.{statement}
+use Rattle.reading_groups.proofs.read_windows.Tie as tie
 
 pub read-windows-spec : {M : Type 1} → statement M
 unfolding readWindows

@@ -1,8 +1,8 @@
 -- `read_actions` meets its contract: each known byte has its arm, and every other one makes the code unknown. Assumes nothing.
 use Rattle.paper.specs.Reading.{readActions}
 use Rattle.reading_codes.proofs.Ranges.{differs}
-use Rattle.reading_codes.proofs.read_actions.Statement.{statement}
-use Rattle.reading_codes.proofs.read_actions.Tie as tie
+use Rattle.reading_groups.proofs.read_actions.Statement.{statement}
+use Rattle.reading_groups.proofs.read_actions.Tie as tie
 
 pub read-actions-spec : {M : Type 1} → statement M
 unfolding readActions

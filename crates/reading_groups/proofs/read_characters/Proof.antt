@@ -1,8 +1,8 @@
 -- `read_characters` meets its contract: each known byte has its arm, and every other one makes the code unknown. Assumes nothing.
 use Rattle.paper.specs.Reading.{readCharacters}
 use Rattle.reading_codes.proofs.Ranges.{differs}
-use Rattle.reading_codes.proofs.read_characters.Statement.{statement}
-use Rattle.reading_codes.proofs.read_characters.Tie as tie
+use Rattle.reading_groups.proofs.read_characters.Statement.{statement}
+use Rattle.reading_groups.proofs.read_characters.Tie as tie
 
 pub read-characters-spec : {M : Type 1} → statement M
 unfolding readCharacters

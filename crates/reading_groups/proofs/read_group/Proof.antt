@@ -1,8 +1,8 @@
 -- `read_group` meets its contract: each known byte has its arm, and every other one makes the code unknown. Assumes nothing.
 use Rattle.paper.specs.Reading.{readGroup}
 use Rattle.reading_codes.proofs.Ranges.{differs}
-use Rattle.reading_codes.proofs.read_group.Statement.{statement}
-use Rattle.reading_codes.proofs.read_group.Tie as tie
+use Rattle.reading_groups.proofs.read_group.Statement.{statement}
+use Rattle.reading_groups.proofs.read_group.Tie as tie
 
 pub read-group-spec : {M : Type 1} → statement M
 unfolding readGroup

@@ -1,8 +1,8 @@
 -- `read_images` meets its contract: each known byte has its arm, and every other one makes the code unknown. Assumes nothing.
 use Rattle.paper.specs.Reading.{readImages}
 use Rattle.reading_codes.proofs.Ranges.{differs}
-use Rattle.reading_codes.proofs.read_images.Statement.{statement}
-use Rattle.reading_codes.proofs.read_images.Tie as tie
+use Rattle.reading_groups.proofs.read_images.Statement.{statement}
+use Rattle.reading_groups.proofs.read_images.Tie as tie
 
 pub read-images-spec : {M : Type 1} → statement M
 unfolding readImages

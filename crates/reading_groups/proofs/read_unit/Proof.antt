@@ -6,9 +6,9 @@ use mathlib.Core.Logic.{_⊎_, inl, inr}
 use native.Mathlib.Omega.{arith}
 use Rattle.paper.specs.Reading.{readUnit}
 use Rattle.paper.specs.declared.Reading.the-variants.{UnknownCode}
 use Rattle.reading_codes.proofs.Ranges.{differs, outside, unit-mode}
-use Rattle.reading_codes.proofs.read_unit.Statement.{statement}
-use Rattle.reading_codes.proofs.read_unit.Tie as tie
+use Rattle.reading_groups.proofs.read_unit.Statement.{statement}
+use Rattle.reading_groups.proofs.read_unit.Tie as tie
 
 unknown : (c : tie.At-match-rest) → (c .before .args .b < 0x01) ⊎ (0x03 < c .before .args .b)
     → UnknownCode ≡ readUnit (c .before .args .b)
