@@ -1,6 +1,5 @@
 // Turns a font's text (fonts/panel.txt says how it is written) into the 1,120 bytes that a feed takes.
 // Reads the text on standard input and writes the bytes on standard output; or says on standard error which line is wrong.
-mod glyph;
 mod head;
 mod store;
 
@@ -89,7 +88,7 @@ fn take_row(line: &[u8], place: usize, rows: usize, dots: &mut [u8], store: &mut
     if line.len() != 5 {
         return wrong(Flaw::BadRow);
     }
-    if !glyph::is_row(line) {
+    if !view_glyph::is_row(line) {
         return wrong(Flaw::BadRow);
     }
     put_row(dots, rows, line);

@@ -3,7 +3,6 @@
 ghost use mathlib.Core.Path.{_≡_};
 ghost use Prim.Native.Nat.{_<_};
 ghost use lib.ListN.{length};
-use crate::glyph;
 
 pub const OTHERS: usize = 224;
 
@@ -21,7 +20,7 @@ pub fn put(store: &mut [u8], place: usize, dots: &[u8])
     requires { ⌜ (place < 225) × (length (now store) ≡ 1350) × (length (now dots) ≡ 35) ⌝ }
 {
     for k in 0..5usize {
-        store[6 * place + k] = glyph::column(dots, k);
+        store[6 * place + k] = view_glyph::column(dots, k);
     }
     store[6 * place + 5] = 1;
 }

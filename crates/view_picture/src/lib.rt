@@ -1,41 +1,14 @@
 // The glass as a picture: half-block characters for a terminal, or a PBM file, each put into a lent buffer.
-// It uses the paper, for the dots, and text put into a buffer. What is drawn at a place is the paper's dot of the glass there.
+// It uses view_dots for the dots, and text put into a buffer.
 ghost use mathlib.Core.Path.{_≡_};
-ghost use Prim.Native.Nat.{_+_, _*_, _≤_, _<_};
+ghost use Prim.Native.Nat.{_<_};
 ghost use lib.ListN.{length};
-ghost use Rattle.paper.specs.Panel.{panel, lit};
-ghost use Rattle.view_picture.specs.Picture.{glassDot, blockOf, pbmByte};
 
 const COLUMNS: usize = 112;
 
 const LINES: usize = 16;
 
-// Whether the dot at column x and line y of the glass is lit, line 0 on top.
-pub fn is_lit(glass: &[u8], x: usize, y: usize) -> bool
-    requires { ⌜ (x < 112) × (y < 16) × (length (now glass) ≡ 224) ⌝ }
-    ensures { λ r. ⌜ r ≡ glassDot panel (now (glass .entry)) x y ⌝ }
-{
-    let b = glass[2 * x + y / 8];
-    (b >> (7 - y % 8)) % 2 == 1
-}
-
 // ---- for a terminal
-
-// The character that shows two dots, one above the other.
-fn block(upper: bool, lower: bool) -> u16
-    ensures { λ r. ⌜ r ≡ blockOf upper lower ⌝ }
-{
-    if upper {
-        if lower {
-            return 0x2588;
-        }
-        return 0x2580;
-    }
-    if lower {
-        return 0x2584;
-    }
-    0x20
-}
 
 // A character in UTF-8; those from 80h to 7FFh are not for this function.
 fn put_code(out: &mut [u8], at: usize, code: u16) -> usize {
@@ -51,9 +24,9 @@ fn put_code(out: &mut [u8], at: usize, code: u16) -> usize {
 fn put_block(out: &mut [u8], at: usize, glass: &[u8], x: usize, n: usize) -> usize
     requires { ⌜ (x < 112) × (n < 8) × (length (now glass) ≡ 224) ⌝ }
 {
-    let upper = is_lit(glass, x, 2 * n);
-    let lower = is_lit(glass, x, 2 * n + 1);
-    put_code(out, at, block(upper, lower))
+    let upper = view_dots::is_lit(glass, x, 2 * n);
+    let lower = view_dots::is_lit(glass, x, 2 * n + 1);
+    put_code(out, at, view_dots::block(upper, lower))
 }
 
 // A line of characters, two lines of dots, with the frame's sides.
@@ -91,40 +64,13 @@ pub fn draw(out: &mut [u8], glass: &[u8]) -> usize
 
 // ---- as a PBM file
 
-// What a dot adds to a byte in which it is worth so much.
-fn worth_of(glass: &[u8], x: usize, y: usize, worth: u8) -> u8
-    requires { ⌜ (x < 112) × (y < 16) × (length (now glass) ≡ 224) ⌝ }
-    ensures { λ r. ⌜ (r ≡ lit worth (glassDot panel (now (glass .entry)) x y)) × (r ≤ worth) ⌝ }
-{
-    if is_lit(glass, x, y) {
-        return worth;
-    }
-    0
-}
-
-// Byte k of line y: eight dots, the leftmost the highest bit, 1 for one that is lit.
-fn pbm_byte(glass: &[u8], k: usize, y: usize) -> u8
-    requires { ⌜ (k < 14) × (y < 16) × (length (now glass) ≡ 224) ⌝ }
-    ensures { λ r. ⌜ r ≡ pbmByte panel (now (glass .entry)) k y ⌝ }
-{
-    let x = 8 * k;
-    worth_of(glass, x, y, 128)
-        + worth_of(glass, x + 1, y, 64)
-        + worth_of(glass, x + 2, y, 32)
-        + worth_of(glass, x + 3, y, 16)
-        + worth_of(glass, x + 4, y, 8)
-        + worth_of(glass, x + 5, y, 4)
-        + worth_of(glass, x + 6, y, 2)
-        + worth_of(glass, x + 7, y, 1)
-}
-
 // A line of the picture.
 fn put_pbm_line(out: &mut [u8], at: usize, glass: &[u8], y: usize) -> usize
     requires { ⌜ (y < 16) × (length (now glass) ≡ 224) ⌝ }
 {
     let mut to = at;
     for k in 0..COLUMNS / 8 {
-        to = view_text::put(out, to, pbm_byte(glass, k, y));
+        to = view_text::put(out, to, view_dots::pbm_byte(glass, k, y));
     }
     to
 }

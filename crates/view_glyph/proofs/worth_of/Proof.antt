@@ -1,10 +1,10 @@
--- `view_font::glyph::worth_of` is safe and gives the worth of a character that is #.
+-- `view_glyph::worth_of` is safe and gives the worth of a character that is #.
 use borrow.Author.Needs.{needs}
 use borrow.Author.Tests.{eq-eqb, ne-eqb}
 use native.Mathlib.Omega.{arith}
 use mathlib.Core.Path.{refl}
-use Rattle.view_font.proofs.glyph.worth_of.Statement.{statement}
-use Rattle.view_font.proofs.glyph.worth_of.Tie as tie
+use Rattle.view_glyph.proofs.worth_of.Statement.{statement}
+use Rattle.view_glyph.proofs.worth_of.Tie as tie
 
 returns : tie.Need-returns
 returns c = (rw (eq-eqb _ _ (c .if1 .taken)) refl, omega arith)

@@ -1,10 +1,10 @@
--- `view_picture::is_lit` is safe and answers the paper's dot of the glass byte.
+-- `view_dots::is_lit` is safe and answers the paper's dot of the glass byte.
 use borrow.Author.Needs.{needs}
 use mathlib.Core.Path.{refl}
 use Rattle.paper.specs.Panel.{panel}
-use Rattle.view_picture.specs.Picture.{glassDot}
-use Rattle.view_picture.proofs.is_lit.Statement.{statement}
-use Rattle.view_picture.proofs.is_lit.Tie as tie
+use Rattle.view_dots.specs.Picture.{glassDot}
+use Rattle.view_dots.proofs.is_lit.Statement.{statement}
+use Rattle.view_dots.proofs.is_lit.Tie as tie
 
 returns : tie.Need-returns
 unfolding panel glassDot

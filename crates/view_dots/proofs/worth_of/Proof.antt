@@ -1,9 +1,9 @@
--- `view_picture::worth_of` is safe and gives the worth of a dot that is lit.
+-- `view_dots::worth_of` is safe and gives the worth of a dot that is lit.
 use borrow.Author.Needs.{needs}
 use native.Mathlib.Omega.{arith}
 use mathlib.Core.Path.{refl}
-use Rattle.view_picture.proofs.worth_of.Statement.{statement}
-use Rattle.view_picture.proofs.worth_of.Tie as tie
+use Rattle.view_dots.proofs.worth_of.Statement.{statement}
+use Rattle.view_dots.proofs.worth_of.Tie as tie
 
 returns : tie.Need-returns
 returns c = (rw (← c .before .is-lit .ensures, c .if1 .taken) refl, omega arith)

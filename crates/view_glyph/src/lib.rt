@@ -1,10 +1,10 @@
-// A picture of seven lines of five characters, one after the other, as the five bytes of its columns.
+// A picture of seven lines of five characters, one after the other, as the five bytes of its columns. It uses the paper alone.
 ghost use mathlib.Core.Path.{_≡_};
 ghost use Prim.Native.Nat.{_≤_, _<_};
 ghost use lib.Dec.{eqb};
 ghost use lib.ListN.{length, getD};
 ghost use Rattle.paper.specs.Panel.{lit};
-ghost use Rattle.view_font.specs.Glyph.{columnOf};
+ghost use Rattle.view_glyph.specs.Glyph.{columnOf};
 
 // What the character at `at` adds to a byte in which it is worth so much.
 fn worth_of(dots: &[u8], at: usize, worth: u8) -> u8

@@ -1,27 +1,24 @@
--- `view_picture::pbm_byte` is safe and gives the byte of eight dots.
+-- `view_glyph::column` is safe and gives the font's byte of a picture's column.
 use borrow.Author.Needs.{needs}
-use native.Mathlib.Nat.{add-zero}
-use mathlib.Core.Path.{refl}
-use Prim.Native.Nat.{_*_}
+use native.Mathlib.Nat.{add-zero, zero-add}
+use mathlib.Core.Path.{sym}
 use Rattle.paper.specs.Panel.{byteOf}
-use Rattle.view_picture.specs.Picture.{pbmByte}
-use Rattle.view_picture.proofs.pbm_byte.Statement.{statement}
-use Rattle.view_picture.proofs.pbm_byte.Tie as tie
+use Rattle.view_glyph.specs.Glyph.{columnOf}
+use Rattle.view_glyph.proofs.column.Statement.{statement}
+use Rattle.view_glyph.proofs.column.Tie as tie
 
 returns : tie.Need-returns
-unfolding pbmByte byteOf
+unfolding columnOf byteOf
 returns c =
-    let c7 = c .before in
-    let c6 = c7 .before in
+    let c6 = c .before in
     let c5 = c6 .before in
     let c4 = c5 .before in
     let c3 = c4 .before in
     let c2 = c3 .before in
     let c1 = c2 .before in
     rw (
-      add-zero (8 * c1 .before .before .args .k),
-      c .worth-of8 .ensures .0,
-      c7 .worth-of7 .ensures .0,
+      zero-add (c1 .before .before .args .k),
+      c .worth-of7 .ensures .0,
       c6 .worth-of6 .ensures .0,
       c5 .worth-of5 .ensures .0,
       c4 .worth-of4 .ensures .0,
@@ -29,17 +26,13 @@ returns c =
       c2 .worth-of2 .ensures .0,
       c1 .worth-of .ensures .0,
     )
-    refl
+    (sym (add-zero _))
 
-pub pbm-byte-spec : {M : Type 1} → statement M
-pbm-byte-spec =
+pub column-spec : {M : Type 1} → statement M
+column-spec =
     tie.close
     (tie.spec
-    (λ c. search needs)
     (λ c κs. search needs)
-    (λ c. search needs)
-    (λ c κs. search needs)
-    (λ c. search needs)
     (λ c. search needs)
     (λ c κs. search needs)
     (λ c. search needs)
