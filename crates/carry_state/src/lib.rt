@@ -105,15 +105,15 @@ pub fn set(g: Module, s: State, held: bool, key: Key, n: u8) -> Done
     requires { ⌜ held ≡ isHeld (s .hold) ⌝ }
     ensures { λ r. ⌜ ((font : Faces) → Says r (commandOf g font s (Command.Set key n))) ⌝ }
 {
-    if state::not_carried_value(key, n) {
+    if state_settings::not_carried_value(key, n) {
         return ends(s, Outcome::NotCarried);
     }
-    if state::is_write(key) & held {
+    if state_settings::is_write(key) & held {
         return ends(s, Outcome::WindowHeld);
     }
     if accept_settings::in_domain(g, key, n) {
         let v = s.settings;
-        let settings = state::with_setting(v, key, n);
+        let settings = state_settings::with_setting(v, key, n);
         return ends(State { settings, ..s }, Outcome::Carried);
     }
     ends(s, Outcome::OutOfDomain)
@@ -126,7 +126,7 @@ pub fn enlarge(g: Module, s: State, x: u8, y: u8) -> Done
 {
     if accept_settings::in_enlargement(x, y) {
         let v = s.settings;
-        let settings = state::enlarge(v, x, y);
+        let settings = state_settings::enlarge(v, x, y);
         return ends(State { settings, ..s }, Outcome::Carried);
     }
     ends(s, Outcome::OutOfDomain)

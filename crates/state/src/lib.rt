@@ -1,49 +1,23 @@
-// The state: what commands do to the state alone: settings and their domains, the initial state, user windows and whether one is held.
-// It may use the paper alone, and it knows nothing of memory or of how bytes are read. The current window's cursor and its range are
-// state_views'.
+// The state: what commands do to the state alone: the initial state, user windows and whether one is held.
+// It may use the paper and state_settings, and it knows nothing of memory or of how bytes are read. The current window's cursor and its
+// range are state_views'.
 // Each contract is the paper's definition of the same name.
 use paper::Cursor;
 use paper::Half;
 use paper::Hold;
-use paper::Key;
 use paper::Module;
-use paper::Settings;
 use paper::Span;
 use paper::Spans;
 use paper::State;
-use paper::Style;
 use paper::Window;
 ghost use mathlib.Core.Path.{_≡_};
 ghost use Prim.Native.Nat.{_-_, _≤_};
 ghost use lib.ListN.{set};
 ghost use Rattle.paper.specs.Strokes.{noSpans};
-ghost use Rattle.paper.specs.Settings.{initialSettings, topLeft, noWindow, initialState, enlarged, withSetting, newWindow, defined, cancelled};
-ghost use Rattle.paper.specs.Carry.{isHeld, notCarriedValue, isWrite};
+ghost use Rattle.paper.specs.Settings.{topLeft, noWindow, initialState, newWindow, defined, cancelled};
+ghost use Rattle.paper.specs.Carry.{isHeld};
 
 // ---- the initial state
-
-// The initial settings.
-fn initial_settings(g: Module) -> Settings
-    ensures { λ r. ⌜ r ≡ initialSettings g ⌝ }
-{
-    let style = Style {
-        reverse: 0,
-        mixing: 0,
-        across: 1,
-        down: 1,
-    };
-    Settings {
-        charset: 0,
-        codes: 0,
-        caret: 0,
-        brightness: g.brightness,
-        speed: 0,
-        width: 1,
-        write: 0,
-        switch: 0,
-        style,
-    }
-}
 
 // A cursor at a window's top left, in MD1.
 fn top_left() -> Cursor
@@ -90,7 +64,7 @@ pub fn initial_state(g: Module) -> State
 {
     let none = no_window();
     State {
-        settings: initial_settings(g),
+        settings: state_settings::initial_settings(g),
         windows: [none, none, none, none],
         base: top_left(),
         selected: 0,
@@ -98,58 +72,6 @@ pub fn initial_state(g: Module) -> State
         half: Half::Nothing,
         spans: no_spans(g),
     }
-}
-
-// ---- settings
-
-// Whether a value asks for a width that is not carried.
-pub fn not_carried_value(key: Key, n: u8) -> bool
-    ensures { λ r. ⌜ r ≡ notCarriedValue key n ⌝ }
-{
-    match key {
-        Key::Width => (2 <= n) & (n <= 3),
-        _ => false,
-    }
-}
-
-// Whether a setting is the write mode.
-pub fn is_write(key: Key) -> bool
-    ensures { λ r. ⌜ r ≡ isWrite key ⌝ }
-{
-    match key {
-        Key::Write => true,
-        _ => false,
-    }
-}
-
-// The settings with one of them changed.
-pub fn with_setting(v: Settings, key: Key, n: u8) -> Settings
-    ensures { λ r. ⌜ r ≡ withSetting v key n ⌝ }
-{
-    let mut t = v;
-    match key {
-        Key::Charset => t.charset = n,
-        Key::Codes => t.codes = n,
-        Key::Caret => t.caret = n,
-        Key::Brightness => t.brightness = n,
-        Key::Reverse => t.style.reverse = n,
-        Key::Speed => t.speed = n,
-        Key::Mixing => t.style.mixing = n,
-        Key::Width => t.width = n,
-        Key::Write => t.write = n,
-        Key::Switch => t.switch = n,
-    }
-    t
-}
-
-// The settings with another enlargement.
-pub fn enlarge(v: Settings, x: u8, y: u8) -> Settings
-    ensures { λ r. ⌜ r ≡ enlarged v x y ⌝ }
-{
-    let mut t = v;
-    t.style.across = x;
-    t.style.down = y;
-    t
 }
 
 // ---- user windows

@@ -1,10 +1,10 @@
--- `state::is_write` meets its contract: no key but Write passes. Assumes nothing.
+-- `state_settings::is_write` meets its contract: no key but Write passes. Assumes nothing.
 use mathlib.Core.List.{[], _∷_}
 use borrow.Author.Needs.{needs}
 use Rattle.paper.specs.Carry.{isWrite}
-use Rattle.state.proofs.Keys.{elsewhere}
-use Rattle.state.proofs.is_write.Statement.{statement}
-use Rattle.state.proofs.is_write.Tie as tie
+use Rattle.state_settings.proofs.Keys.{elsewhere}
+use Rattle.state_settings.proofs.is_write.Statement.{statement}
+use Rattle.state_settings.proofs.is_write.Tie as tie
 
 returns-2 : tie.Need-returns-2
 unfolding isWrite

@@ -1,8 +1,8 @@
--- `state::initial_settings` meets its contract. Assumes nothing.
+-- `state_settings::initial_settings` meets its contract. Assumes nothing.
 use mathlib.Core.Path.{refl}
 use Rattle.paper.specs.Settings.{initialStyle, initialSettings}
-use Rattle.state.proofs.initial_settings.Statement.{statement}
-use Rattle.state.proofs.initial_settings.Tie as tie
+use Rattle.state_settings.proofs.initial_settings.Statement.{statement}
+use Rattle.state_settings.proofs.initial_settings.Tie as tie
 
 pub initial-settings-spec : {M : Type 1} → statement M
 unfolding initialStyle initialSettings

@@ -1,7 +1,7 @@
--- `state::with_setting` meets its contract: each arm is the paper's clause for its key. Assumes nothing.
+-- `state_settings::with_setting` meets its contract: each arm is the paper's clause for its key. Assumes nothing.
 use Rattle.paper.specs.Settings.{withSetting}
-use Rattle.state.proofs.with_setting.Statement.{statement}
-use Rattle.state.proofs.with_setting.Tie as tie
+use Rattle.state_settings.proofs.with_setting.Statement.{statement}
+use Rattle.state_settings.proofs.with_setting.Tie as tie
 
 pub with-setting-spec : {M : Type 1} → statement M
 unfolding withSetting

@@ -1,10 +1,10 @@
--- `state::not_carried_value` meets its contract: at no key but Width is a value not carried. Assumes nothing.
+-- `state_settings::not_carried_value` meets its contract: at no key but Width is a value not carried. Assumes nothing.
 use mathlib.Core.List.{[], _∷_}
 use borrow.Author.Needs.{needs}
 use Rattle.paper.specs.Carry.{notCarriedValue}
-use Rattle.state.proofs.Keys.{elsewhere}
-use Rattle.state.proofs.not_carried_value.Statement.{statement}
-use Rattle.state.proofs.not_carried_value.Tie as tie
+use Rattle.state_settings.proofs.Keys.{elsewhere}
+use Rattle.state_settings.proofs.not_carried_value.Statement.{statement}
+use Rattle.state_settings.proofs.not_carried_value.Tie as tie
 
 returns-2 : tie.Need-returns-2
 unfolding notCarriedValue
