@@ -9,28 +9,12 @@ use libc::STDOUT_FILENO;
 use record_bytes::RECORD;
 use replay_input::Run;
 
-fn fill(buffer: &mut [u8], b: u8) {
-    for i in 0..buffer.len() {
-        buffer[i] = b;
-    }
-}
-
 // Memory, glass and record of a new world: a start with no memory leaves the initial state, nothing marked.
 fn begin(run: Run, record: &mut [u8], mem: &mut [u8], glass: &mut [u8]) -> Run {
-    fill(mem, 0x3C);
-    fill(glass, 0xC3);
+    replay_input::fill(mem, 0x3C);
+    replay_input::fill(glass, 0xC3);
     panel_c::panel_start(record, &mut mem[0..0]);
     run
-}
-
-// Byte n of the record is the next byte of the input.
-fn put(all: &[u8], run: Run, record: &mut [u8]) -> Run {
-    let at = run.n as usize;
-    let next = replay_input::byte(all, run);
-    if at < record.len() {
-        record[at] = next.n as u8;
-    }
-    next
 }
 
 // Plays the entry of this kind, below 7, whose number was read last: what the next calls find.
@@ -50,7 +34,7 @@ fn prepare(
         3 => Run { font: n, ..r },
         4 => Run { glass: n, ..r },
         5 => begin(r, record, mem, glass),
-        _ => put(all, r, record),
+        _ => replay_input::put(all, r, record),
     }
 }
 
@@ -97,20 +81,6 @@ fn play_all(all: &[u8], record: &mut [u8], mem: &mut [u8], glass: &mut [u8]) -> 
     run
 }
 
-fn write_what(differs: u8) {
-    let fd = STDOUT_FILENO;
-    match differs {
-        0 => io::write_all(fd, b" calls played, no difference\n"),
-        1 => io::write_all(fd, b" calls played, the last with another answer\n"),
-        2 => io::write_all(fd, b" calls played, the last with another outcome\n"),
-        3 => io::write_all(fd, b" calls played, the last with another count\n"),
-        4 => io::write_all(fd, b" calls played, the last left another memory\n"),
-        5 => io::write_all(fd, b" calls played, the last left another glass\n"),
-        _ => io::write_all(fd, b" calls played, the last left another record\n"),
-    }
-    ;
-}
-
 // Room for the stored bytes.
 fn room() -> [u8; 1048576]
     ensures { λ r. ⌜ 1048576 ≡ length r ⌝ }
@@ -126,5 +96,5 @@ fn main() {
     let n = io::read_full(STDIN_FILENO, &mut room);
     let run = play_all(&room[..n], &mut record, &mut mem, &mut glass);
     io::print_decimal(STDOUT_FILENO, run.calls);
-    write_what(run.differs);
+    replay_input::write_what(run.differs);
 }

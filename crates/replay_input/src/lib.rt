@@ -1,7 +1,8 @@
-// The stored bytes, where the playing of them stands, and whether a call gives and leaves what is stored. What lies past their end
-// is 0. It knows no panel, and uses no other crate.
+// The stored bytes, where the playing of them stands, whether a call gives and leaves what is stored, and that in words. What lies past
+// their end is 0. It knows no panel.
 ghost use Prim.Native.Nat.{_<_, _≤_, _^_};
 ghost use lib.ListN.{length};
+use libc::STDOUT_FILENO;
 
 // ---- the stored bytes
 
@@ -144,4 +145,36 @@ pub fn hold_sums(all: &[u8], r: Run, record: &[u8], mem: &[u8], glass: &[u8]) ->
     let r = hold_to(four(all, r), sum(part(mem, 0, 1024)), 4);
     let r = hold_to(four(all, r), sum(part(glass, 0, 224)), 5);
     hold_to(four(all, r), sum(record), 6)
+}
+
+// Byte n of the record is the next byte of the input.
+pub fn put(all: &[u8], run: Run, record: &mut [u8]) -> Run {
+    let at = run.n as usize;
+    let next = byte(all, run);
+    if at < record.len() {
+        record[at] = next.n as u8;
+    }
+    next
+}
+
+// Every byte of a buffer is this one.
+pub fn fill(buffer: &mut [u8], b: u8) {
+    for i in 0..buffer.len() {
+        buffer[i] = b;
+    }
+}
+
+// What the last call differs in, in words.
+pub fn write_what(differs: u8) {
+    let fd = STDOUT_FILENO;
+    match differs {
+        0 => io::write_all(fd, b" calls played, no difference\n"),
+        1 => io::write_all(fd, b" calls played, the last with another answer\n"),
+        2 => io::write_all(fd, b" calls played, the last with another outcome\n"),
+        3 => io::write_all(fd, b" calls played, the last with another count\n"),
+        4 => io::write_all(fd, b" calls played, the last left another memory\n"),
+        5 => io::write_all(fd, b" calls played, the last left another glass\n"),
+        _ => io::write_all(fd, b" calls played, the last left another record\n"),
+    }
+    ;
 }

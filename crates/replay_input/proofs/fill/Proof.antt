@@ -1,10 +1,10 @@
--- `replay::fill` is safe and ends. The measure is what is left of the buffer.
+-- `replay_input::fill` is safe and ends. The measure is what is left of the buffer.
 use borrow.Author.Needs.{needs}
 use Prim.Native.Nat.{_-_}
 use lib.ListN.{length, length-set}
 use mathlib.Core.Path.{_≡_}
-use Rattle.replay.proofs.fill.Statement.{statement}
-use Rattle.replay.proofs.fill.Tie as tie
+use Rattle.replay_input.proofs.fill.Statement.{statement}
+use Rattle.replay_input.proofs.fill.Tie as tie
 
 abbrev Inv-loop : tie.InvT-loop
 Inv-loop buffer₀ b i₀ i-end buffer i = (length buffer ≡ length buffer₀) × (i-end ≡ length buffer₀)
