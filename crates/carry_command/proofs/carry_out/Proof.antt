@@ -1,4 +1,4 @@
--- `carry::carry_out` meets its contract: an arm for each command. Assumes nothing.
+-- `carry_command::carry_out` meets its contract: an arm for each command. Assumes nothing.
 use borrow.Author.Needs.{needs}
 use mathlib.Core.Path.{refl}
 use denote.Ref.{now}
@@ -11,10 +11,10 @@ use Rattle.laws_bytes.proofs.Tests.{between-facts}
 use Rattle.carry_state.proofs.Answers.{is-14, is-16}
 use Rattle.carry_state.proofs.Facts.{selected-small}
 use Rattle.carry_dots.proofs.Wrote.{does-quiet}
-use Rattle.carry.specs.Heavy.{isCell}
-use Rattle.carry.proofs.Kept.{kept, kept-quiet, kept-answered}
-use Rattle.carry.proofs.carry_out.Statement.{statement}
-use Rattle.carry.proofs.carry_out.Tie as tie
+use Rattle.carry_command.specs.Heavy.{isCell}
+use Rattle.carry_command.proofs.Kept.{kept, kept-quiet, kept-answered}
+use Rattle.carry_command.proofs.carry_out.Statement.{statement}
+use Rattle.carry_command.proofs.carry_out.Tie as tie
 
 -- ---- what each command asks
 
