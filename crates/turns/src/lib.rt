@@ -120,7 +120,7 @@ pub fn feed_some(
 {
     let s = f.state;
     if turns_light::is_light(g, s, piece, i) {
-        return turns_light::feed_light(g, mem, font, store, piece, f, i);
+        return turns_stretch::feed_light(g, mem, font, store, piece, f, i);
     }
     let half = s.half;
     match half {

@@ -29,8 +29,8 @@ use Rattle.moves.specs.declared.Spot.{Spot}
 use Rattle.text.specs.Inked.{Inked}
 use Rattle.runs_line.specs.Went.{under}
 use Rattle.strides.specs.Strides.{styledBy}
-use Rattle.turns_light.specs.Turns.{restyled, onDesk}
-use Rattle.turns_light.proofs.Inks.{inks}
+use Rattle.turns_stretch.specs.Desk.{restyled, onDesk}
+use Rattle.turns_stretch.proofs.Inks.{inks}
 
 -- ---- settings and a cursor are put in side by side
 

@@ -1,10 +1,10 @@
--- `turns_light::settled` meets its contract. Assumes nothing.
+-- `turns_stretch::settled` meets its contract. Assumes nothing.
 use borrow.Author.Needs.{needs}
 use mathlib.Core.Path.{ap}
 use Rattle.paper.specs.declared.State.{State}
-use Rattle.turns_light.specs.Turns.{turnedTo}
-use Rattle.turns_light.proofs.settled.Statement.{statement}
-use Rattle.turns_light.proofs.settled.Tie as tie
+use Rattle.turns_stretch.specs.Desk.{turnedTo}
+use Rattle.turns_stretch.proofs.settled.Statement.{statement}
+use Rattle.turns_stretch.proofs.settled.Tie as tie
 
 returns : tie.Need-returns
 returns c =

@@ -24,7 +24,7 @@ use Rattle.laws_state.proofs.Reached.{reaches-next}
 use Rattle.laws_state.proofs.Runs.{penned, penned-within, character-next, characters-reached}
 use Rattle.laws_state.proofs.Taken.{from-here}
 use Rattle.laws_state.specs.Told.{fed}
-use Rattle.turns_light.specs.Turns.{Drawable}
+use Rattle.turns_stretch.specs.Desk.{Drawable}
 
 -- ---- characters
 

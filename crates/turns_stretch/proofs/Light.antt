@@ -54,10 +54,11 @@ use Rattle.runs_line.specs.Went.{under}
 use Rattle.runs.specs.Runs.{Ran}
 use Rattle.strides.specs.Strides.{stepOf, isStyling, styledBy, isLight}
 use Rattle.laws_state.specs.Told.{fed}
-use Rattle.turns_light.specs.Turns.{Gathers, here, restyled, onDesk}
-use Rattle.turns_light.proofs.Turns.{characters-turn}
+use Rattle.turns_light.specs.Turns.{Gathers, here}
+use Rattle.turns_stretch.specs.Desk.{restyled, onDesk}
+use Rattle.turns_stretch.proofs.Turns.{characters-turn}
 use Rattle.turns_light.proofs.Gathering.{gathers-read, taken, taken-reached}
-use Rattle.turns_light.proofs.Desk.{settings-aside, styled-exceeds, desk-view, desk-settings, desk-half, desk-exceeds, desk-room}
+use Rattle.turns_stretch.proofs.Desk.{settings-aside, styled-exceeds, desk-view, desk-settings, desk-half, desk-exceeds, desk-room}
 
 -- ---- a move that comes as a byte
 

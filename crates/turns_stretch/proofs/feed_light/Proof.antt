@@ -1,4 +1,4 @@
--- `turns_light::feed_light` meets its contract. The loop's invariant: all so far is in the spot and the style. Assumes nothing.
+-- `turns_stretch::feed_light` meets its contract. The loop's invariant: all so far is in the spot and the style. Assumes nothing.
 use borrow.Author.Needs.{needs}
 use mathlib.Core.Path.{_≡_, sym, _∙_}
 use mathlib.Core.Bool.{true}
@@ -13,12 +13,12 @@ use Rattle.laws_memory.specs.Rectangles.{Fits}
 use Rattle.laws_state.specs.Room.{Room}
 use Rattle.carry_state.proofs.Facts.{selected-small}
 use Rattle.strides.specs.Strides.{isStyling}
-use Rattle.turns_light.specs.Turns.{onDesk}
-use Rattle.turns_light.proofs.Turns.{settles-within}
-use Rattle.turns_light.proofs.Desk.{desk-room, desk-inked}
-use Rattle.turns_light.proofs.Light.{Lit, lit-begin, lit-ok, lit-counts, lit-characters, lit-move, lit-style, light-some, light-style, style-whole}
-use Rattle.turns_light.proofs.feed_light.Statement.{statement}
-use Rattle.turns_light.proofs.feed_light.Tie as tie
+use Rattle.turns_stretch.specs.Desk.{onDesk}
+use Rattle.turns_stretch.proofs.Turns.{settles-within}
+use Rattle.turns_stretch.proofs.Desk.{desk-room, desk-inked}
+use Rattle.turns_stretch.proofs.Light.{Lit, lit-begin, lit-ok, lit-counts, lit-characters, lit-move, lit-style, light-some, light-style, style-whole}
+use Rattle.turns_stretch.proofs.feed_light.Statement.{statement}
+use Rattle.turns_stretch.proofs.feed_light.Tie as tie
 
 abbrev Inv-loop : tie.InvT-loop
 Inv-loop g mem₀ font store piece f from w own range p₀ style₀ carried₀ outcome₀ i₀ mem p style carried outcome i =
