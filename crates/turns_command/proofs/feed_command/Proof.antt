@@ -1,4 +1,4 @@
--- `turns::feed_command` meets its contract: bytes gathered and then taken come to what they come to one by one. Assumes nothing.
+-- `turns_command::feed_command` meets its contract: bytes gathered and then taken come to what they come to one by one. Assumes nothing.
 use borrow.Author.Needs.{needs}
 use Prim.Native.Nat.{_-_}
 use native.Mathlib.Omega.{arith}
@@ -6,13 +6,13 @@ use Rattle.laws_bytes.specs.Readings.{readingOk}
 use Rattle.laws_state.proofs.Parts.{parts}
 use Rattle.paper.specs.Downloads.{faces}
 use Rattle.paper.specs.Carry.{exceeds, takeOf, takeStore}
-use Rattle.turns.proofs.Counts.{carried-one, answered-one, counted-by}
+use Rattle.turns_command.proofs.Counts.{carried-one, answered-one, counted-by}
 use Rattle.turns_gather.proofs.Onward.{heavy-where}
 use Rattle.turns_light.specs.Turns.{lightStart}
 use Rattle.turns_light.proofs.Lightness.{not-light}
 use Rattle.turns_light.proofs.Gathering.{gathers-ok, taken-reached}
-use Rattle.turns.proofs.feed_command.Statement.{statement}
-use Rattle.turns.proofs.feed_command.Tie as tie
+use Rattle.turns_command.proofs.feed_command.Statement.{statement}
+use Rattle.turns_command.proofs.feed_command.Tie as tie
 
 -- what is half read is a proper beginning of a command
 gather-requires : tie.Need-gather-requires

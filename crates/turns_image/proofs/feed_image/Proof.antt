@@ -1,13 +1,13 @@
--- `turns::feed_image` meets its contract: the run comes to what its bytes come to one by one. Assumes nothing.
+-- `turns_image::feed_image` meets its contract: the run comes to what its bytes come to one by one. Assumes nothing.
 use borrow.Author.Needs.{needs}
 use borrow.Author.Tests.{eq-eqb, ne-eqb}
 use native.Mathlib.Omega.{arith}
 use Rattle.carry_state.proofs.Facts.{selected-small}
 use Rattle.laws_state.specs.Runs.{image}
 use Rattle.laws_state.proofs.Views.{view-place}
-use Rattle.turns.proofs.Images.{image-bounds, image-bytes-whole-turn, image-bytes-part-turn}
-use Rattle.turns.proofs.feed_image.Statement.{statement}
-use Rattle.turns.proofs.feed_image.Tie as tie
+use Rattle.turns_image.proofs.Images.{image-bounds, image-bytes-whole-turn, image-bytes-part-turn}
+use Rattle.turns_image.proofs.feed_image.Statement.{statement}
+use Rattle.turns_image.proofs.feed_image.Tie as tie
 
 spot-of-requires : tie.Need-spot-of-requires
 spot-of-requires c κs =
