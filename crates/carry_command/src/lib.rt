@@ -1,5 +1,6 @@
 // Carrying out one command on state, memory and downloads.
-// It may use carry_state, carry_store and carry_dots for what a command does, state for whether a window is held.
+// It may use carry_state, carry_windows, carry_settings, carry_store and carry_dots for what a command does, state for whether a window
+// is held.
 // Its contract says that what was done is what the paper's meaning says, and that the downloads are those it leaves.
 use carry_state::Done;
 use paper::Command;
@@ -33,11 +34,11 @@ pub fn carry_out(g: Module, mem: &mut [u8], store: &mut [u8], s: State, c: Comma
         Command::Home => carry_state::home(g, s),
         Command::Clear => carry_dots::clear(g, mem, s),
         Command::Return => carry_state::carriage_return(g, s),
-        Command::Select(k) => carry_state::select(g, s, held, k),
+        Command::Select(k) => carry_windows::select(g, s, held, k),
         Command::Initialise => carry_dots::initialise(g, mem, store, s, held),
         Command::Mode(n) => carry_state::mode(g, s, n),
-        Command::Set { key, value } => carry_state::set(g, s, held, key, value),
-        Command::Enlarge { x, y } => carry_state::enlarge(g, s, x, y),
+        Command::Set { key, value } => carry_settings::set(g, s, held, key, value),
+        Command::Enlarge { x, y } => carry_settings::enlarge(g, s, x, y),
         Command::CursorSet { x, y } => carry_state::set_cursor(g, s, x, y),
         Command::Define {
             a,
@@ -45,8 +46,8 @@ pub fn carry_out(g: Module, mem: &mut [u8], store: &mut [u8], s: State, c: Comma
             top,
             width,
             height,
-        } => { carry_state::define(g, s, held, a, left, top, width, height) }
-        Command::Cancel(a) => carry_state::cancel(g, s, held, a),
+        } => { carry_windows::define(g, s, held, a, left, top, width, height) }
+        Command::Cancel(a) => carry_windows::cancel(g, s, held, a),
         Command::Uncarried => carry_state::ends(s, Outcome::NotCarried),
         Command::Erase { a, code } => carry_store::erase(g, store, s, held, a, code),
     }

@@ -1,13 +1,13 @@
--- `carry_state::select` meets its contract: 15 while held, then 11, then 17. Assumes nothing.
+-- `carry_windows::select` meets its contract: 15 while held, then 11, then 17. Assumes nothing.
 use borrow.Author.Needs.{needs}
 use mathlib.Core.Path.{refl, sym, ap, _∙_}
 use mathlib.Core.Bool.{not}
 use borrow.Author.Tests.{lt-ltb, le-ltb}
 use Rattle.paper.specs.declared.Command.the-variants.{Select}
 use Rattle.paper.specs.Carry.{asks, carriedOut}
 use Rattle.carry_state.proofs.Answers.{is-15, is-11, is-17, is-10, says}
-use Rattle.carry_state.proofs.select.Statement.{statement}
-use Rattle.carry_state.proofs.select.Tie as tie
+use Rattle.carry_windows.proofs.select.Statement.{statement}
+use Rattle.carry_windows.proofs.select.Tie as tie
 
 ends-requires : tie.Need-ends-requires
 ends-requires c κs = search needs

@@ -1,14 +1,14 @@
--- `carry_state::set` meets its contract: 14, then 15, then 11. Assumes nothing.
+-- `carry_settings::set` meets its contract: 14, then 15, then 11. Assumes nothing.
 use borrow.Author.Needs.{needs}
 use mathlib.Core.Path.{_≡_, refl, sym, ap, ap₂, _∙_}
 use mathlib.Core.Bool.{false, not, _&&_}
 use Rattle.paper.specs.declared.Command.the-variants.{Set}
 use Rattle.paper.specs.Carry.{isHeld, notCarriedValue, isWrite, asks, carriedOut}
 use Rattle.carry_state.proofs.Answers.{is-14, is-15, is-11, is-10, says, ends-at}
 use Rattle.paper.specs.declared.Settings.{Settings}
 use Rattle.paper.specs.Settings.{withSettings}
-use Rattle.carry_state.proofs.set.Statement.{statement}
-use Rattle.carry_state.proofs.set.Tie as tie
+use Rattle.carry_settings.proofs.set.Statement.{statement}
+use Rattle.carry_settings.proofs.set.Tie as tie
 
 -- ---- what the tests have found on the way
 

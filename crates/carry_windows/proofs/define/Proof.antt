@@ -1,12 +1,12 @@
--- `carry_state::define` meets its contract: 15 while held, then 11. Assumes nothing.
+-- `carry_windows::define` meets its contract: 15 while held, then 11. Assumes nothing.
 use borrow.Author.Needs.{needs}
 use mathlib.Core.Path.{refl, sym, ap, _∙_}
 use mathlib.Core.Bool.{not}
 use Rattle.paper.specs.declared.Command.the-variants.{Define}
 use Rattle.paper.specs.Carry.{asks, carriedOut}
 use Rattle.carry_state.proofs.Answers.{is-15, is-11, is-10, says, ends-at}
-use Rattle.carry_state.proofs.define.Statement.{statement}
-use Rattle.carry_state.proofs.define.Tie as tie
+use Rattle.carry_windows.proofs.define.Statement.{statement}
+use Rattle.carry_windows.proofs.define.Tie as tie
 
 ends-requires : tie.Need-ends-requires
 ends-requires c κs = search needs

@@ -1,14 +1,14 @@
--- `carry_state::enlarge` meets its contract. Assumes nothing.
+-- `carry_settings::enlarge` meets its contract. Assumes nothing.
 use borrow.Author.Needs.{needs}
 use mathlib.Core.Path.{refl, sym, ap, _∙_}
 use mathlib.Core.Bool.{not}
 use Rattle.paper.specs.declared.Command.the-variants.{Enlarge}
 use Rattle.paper.specs.Carry.{asks, carriedOut}
 use Rattle.carry_state.proofs.Answers.{is-11, is-10, says, ends-at}
 use Rattle.paper.specs.declared.Settings.{Settings}
 use Rattle.paper.specs.Settings.{withSettings}
-use Rattle.carry_state.proofs.enlarge.Statement.{statement}
-use Rattle.carry_state.proofs.enlarge.Tie as tie
+use Rattle.carry_settings.proofs.enlarge.Statement.{statement}
+use Rattle.carry_settings.proofs.enlarge.Tie as tie
 
 in-enlargement-requires : tie.Need-in-enlargement-requires
 in-enlargement-requires c κs = search needs

@@ -1,11 +1,11 @@
--- `carry_state::cancel` meets its contract: 15 while held. Assumes nothing.
+-- `carry_windows::cancel` meets its contract: 15 while held. Assumes nothing.
 use borrow.Author.Needs.{needs}
 use mathlib.Core.Path.{refl, sym, _∙_}
 use Rattle.paper.specs.declared.Command.the-variants.{Cancel}
 use Rattle.paper.specs.Carry.{asks, carriedOut}
 use Rattle.carry_state.proofs.Answers.{is-15, is-10, says, ends-at}
-use Rattle.carry_state.proofs.cancel.Statement.{statement}
-use Rattle.carry_state.proofs.cancel.Tie as tie
+use Rattle.carry_windows.proofs.cancel.Statement.{statement}
+use Rattle.carry_windows.proofs.cancel.Tie as tie
 
 ends-requires : tie.Need-ends-requires
 ends-requires c κs = search needs
