@@ -1,12 +1,10 @@
 // The loop over a piece, turn after turn.
-// It may use turns for some bytes of a piece.
+// It may use turns for some bytes of a piece, state_apart for the state that it begins with.
 // Its contract says that the whole piece is fed as its bytes are one by one.
 use paper::Fed;
-use paper::Hold;
 use paper::Module;
 use paper::Outcome;
 use paper::Refusal;
-use paper::Settings;
 use paper::State;
 ghost use mathlib.Core.Path.{_≡_};
 ghost use mathlib.Core.List.{[]};
@@ -29,41 +27,6 @@ pub fn fed_nothing(refusal: Refusal, state: State) -> Fed
     }
 }
 
-// The same state, what is saved in it taken apart and put together again: so the compiler sees fields that the loop over a piece
-// leaves alone, and not a block to be copied with each byte.
-fn apart(s: State) -> State
-    ensures { λ r. ⌜ r ≡ s ⌝ }
-{
-    let h = s.hold;
-    match h {
-        Hold::Free => s,
-        Hold::Held {
-            window,
-            selected,
-            settings,
-        } => {
-            let style = settings.style;
-            let again = Settings {
-                charset: settings.charset,
-                codes: settings.codes,
-                caret: settings.caret,
-                brightness: settings.brightness,
-                speed: settings.speed,
-                width: settings.width,
-                write: settings.write,
-                switch: settings.switch,
-                style,
-            };
-            let hold = Hold::Held {
-                window,
-                selected,
-                settings: again,
-            };
-            State { hold, ..s }
-        }
-    }
-}
-
 // The whole piece.
 pub fn feed_all(
     g: Module,
@@ -77,7 +40,7 @@ pub fn feed_all(
     ensures { λ r. ⌜ fed r (now (mem .exit)) (now (store .exit))
         ≡ run g (now (font .entry)) (fedNothing Refusal.Accepted s (now (store .entry)) (now (mem .entry))) (now (piece .entry)) ⌝ }
 {
-    let mut f = fed_nothing(Refusal::Accepted, apart(s));
+    let mut f = fed_nothing(Refusal::Accepted, state_apart::apart(s));
     let mut i = 0;
     while i < piece.len() {
         let t = turns::feed_some(g, mem, store, font, piece, f, i);
