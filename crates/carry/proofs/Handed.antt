@@ -10,7 +10,7 @@ use denote.Enum.Declared.{tagOf}
 use Rattle.paper.proofs.Reading.{the-type}
 use Rattle.paper.specs.declared.Reading.{Reading}
 use Rattle.paper.specs.declared.Reading.the-variants.{More, Whole, ImageByte, ImageEnd, GlyphEnd, Cancels, UnknownCode}
-use Rattle.carry.specs.Heavy.{heavy}
+use Rattle.carry_command.specs.Heavy.{heavy}
 
 -- the tags of the two kinds of an image's byte, and of an unknown code
 abbrev isLeft : ℕ → Bool

@@ -1,3 +1,3 @@
--- The laws of what a command leaves alone, and of what is handed in.
-pub mod Kept
+-- The laws of what a command leaves half read, and of what is handed in.
+mod Kept
 mod Handed

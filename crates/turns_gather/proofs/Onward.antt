@@ -21,7 +21,7 @@ use Rattle.paper.specs.declared.Reading.the-variants.{More, Whole, ImageByte, I
 use Rattle.paper.specs.Reading.{between, withColumn, readColumn, readMove, readFirst, readEscape, readUnit, readGroup, readActions, readImages, readCharacters, readWindows, readRest, readWindowB, word16, readWord, readOf}
 use Rattle.laws_bytes.proofs.Tests.{both-of}
 use Rattle.strides.specs.Strides.{isStyling, isLight}
-use Rattle.carry.specs.Heavy.{isCell, heavy}
+use Rattle.carry_command.specs.Heavy.{isCell, heavy}
 use Rattle.turns_light.specs.Halves.{isNothing, isImage}
 use Rattle.turns_light.specs.Turns.{lightStart}
 use Rattle.turns_light.proofs.Halves.{missed}

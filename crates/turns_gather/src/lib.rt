@@ -10,7 +10,7 @@ ghost use mathlib.Core.Bool.{true, false};
 ghost use Prim.Native.Nat.{_<_, _≤_};
 ghost use lib.ListN.{length, drop};
 ghost use Rattle.paper.specs.Bounds.{halfOk};
-ghost use Rattle.carry.specs.Heavy.{heavy};
+ghost use Rattle.carry_command.specs.Heavy.{heavy};
 ghost use Rattle.turns_light.specs.Halves.{isImage};
 ghost use Rattle.turns_light.specs.Turns.{lightStart, Gathers};
 

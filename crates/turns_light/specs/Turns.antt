@@ -10,27 +10,16 @@ use Rattle.paper.specs.declared.Half.{Half}
 use Rattle.paper.specs.declared.Half.the-variants.{Nothing}
 use Rattle.paper.specs.declared.Reading.{Reading}
 use Rattle.paper.specs.declared.Reading.the-variants.{More}
-use Rattle.paper.specs.declared.Outcome.{Outcome}
-use Rattle.paper.specs.declared.Refusal.{Refusal}
 use Rattle.paper.specs.declared.State.{State}
-use Rattle.paper.specs.declared.Style.{Style}
 use Rattle.paper.specs.Panel.{fontLength}
 use Rattle.paper.specs.Reading.{readOf}
-use Rattle.paper.specs.Settings.{withSettings, withSpans, withStyle, withView}
 use Rattle.paper.specs.Carry.{exceeds}
 use Rattle.laws_state.specs.Runs.{Reaches}
 use Rattle.laws_state.specs.Told.{fed}
-use Rattle.moves.specs.declared.Spot.{Spot}
 use Rattle.strides.specs.Strides.{isLight}
 use Rattle.carry_dots.specs.Does.{Ready}
 use Rattle.turns_light.specs.Halves.{isNothing}
 use Rattle.turns_light.specs.declared.Turn.{Turn}
-
--- a byte that is a character, while nothing is half read and a cell has room
-pub record Drawable (g : Module) (s : State) (b : ℕ) : Type 0 where
-  pub free : s .half ≡ Nothing
-  pub has : 0x20 ≤ b
-  pub room : exceeds g s ≡ false
 
 -- a byte with which a stretch that needs no state begins, while nothing is half read and a cell has room
 pub record Light (g : Module) (s : State) (piece : List ℕ) (i : ℕ) : Type 0 where
@@ -44,17 +33,6 @@ lightStart h piece i = isNothing h && isLight piece i
 
 abbrev pub lightAt : Module → State → List ℕ → ℕ → Bool
 lightAt g s piece i = lightStart (s .half) piece i && not (exceeds g s)
-
--- the state with another style, and with its current window's cursor and its spans where a spot has them
-abbrev pub restyled : State → Style → State
-restyled s y = withSettings s (withStyle (s .settings) y)
-
-abbrev pub onDesk : State → Style → Spot → State
-onDesk s y p = withSpans (withView (restyled s y) (p .view)) (p .spans)
-
--- a turn by its parts
-abbrev pub turnedTo : Refusal → State → ℕ → ℕ → Outcome → ℕ → Turn
-turnedTo r s c a o at = record { fed = record { refusal = r; state = s; carried = c; answered = a; outcome = o }; at = at }
 
 -- reading on with the bytes bs after a reading comes, byte by byte, to another with rest left; only a half-read command is read on
 pub data Gathers (g : Module) : Reading → List ℕ → Reading → List ℕ → Type 0 where

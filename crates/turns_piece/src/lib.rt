@@ -1,5 +1,5 @@
 // The loop over a piece, turn after turn.
-// It may use turns for some bytes of a piece, state_held for what the loop leaves alone.
+// It may use turns for some bytes of a piece, state_apart for the state that it begins with.
 // Its contract says that the whole piece is fed as its bytes are one by one.
 use paper::Fed;
 use paper::Module;
@@ -40,7 +40,7 @@ pub fn feed_all(
     ensures { λ r. ⌜ fed r (now (mem .exit)) (now (store .exit))
         ≡ run g (now (font .entry)) (fedNothing Refusal.Accepted s (now (store .entry)) (now (mem .entry))) (now (piece .entry)) ⌝ }
 {
-    let mut f = fed_nothing(Refusal::Accepted, state_held::apart(s));
+    let mut f = fed_nothing(Refusal::Accepted, state_apart::apart(s));
     let mut i = 0;
     while i < piece.len() {
         let t = turns::feed_some(g, mem, store, font, piece, f, i);

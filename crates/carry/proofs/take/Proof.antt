@@ -9,7 +9,7 @@ use Rattle.paper.specs.Settings.{viewOf}
 use Rattle.paper.specs.Carry.{takeOf, takeStore}
 use Rattle.laws_bytes.specs.Readings.{readingOk}
 use Rattle.carry_dots.proofs.Wrote.{does-answer, does-quiet, ready-half}
-use Rattle.carry.specs.Heavy.{heavy}
+use Rattle.carry_command.specs.Heavy.{heavy}
 use Rattle.carry.proofs.Kept.{kept-half}
 use Rattle.carry.proofs.Handed.{is-unknown}
 use Rattle.carry.proofs.take.Statement.{statement}

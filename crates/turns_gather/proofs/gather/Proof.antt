@@ -8,7 +8,7 @@ use lib.ListN.{length, drop}
 use Rattle.paper.specs.declared.Reading.the-variants.{More}
 use Rattle.laws_bytes.specs.Readings.{readingOk}
 use Rattle.turns_light.specs.Turns.{Gathers, here}
-use Rattle.carry.specs.Heavy.{heavy}
+use Rattle.carry_command.specs.Heavy.{heavy}
 use Rattle.turns_light.proofs.Gathering.{gathers-read, gathers-ok}
 use Rattle.turns_gather.proofs.Onward.{Onward, onward-reads, onward-next}
 use Rattle.turns_gather.proofs.gather.Statement.{statement}

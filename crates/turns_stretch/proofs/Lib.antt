@@ -1,0 +1,4 @@
+mod Inks
+mod Turns
+mod Desk
+mod Light
