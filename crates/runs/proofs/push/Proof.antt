@@ -11,7 +11,7 @@ use Rattle.glyphs.proofs.Parts.{font-columns, font-alone}
 use Rattle.cells_columns.specs.DrawnAs.{drawnAs}
 use Rattle.cells.specs.Drawn.{drawn}
 use Rattle.moves.proofs.Done.{does-stroke}
-use Rattle.text.proofs.Steps.{drawn-from}
+use Rattle.text_cells.proofs.Steps.{drawn-from}
 use Rattle.runs.proofs.Lines.{drawn-pushed}
 use Rattle.runs.proofs.push.Statement.{statement}
 use Rattle.runs.proofs.push.Tie as tie

@@ -1,12 +1,12 @@
--- `text::draw_found` meets its contract, by whether the code has columns of its own. Assumes nothing.
+-- `text_cells::draw_found` meets its contract, by whether the code has columns of its own. Assumes nothing.
 use mathlib.Core.Path.{sym, ap, _∙_}
 use borrow.Author.Needs.{needs}
 use lib.ListN.{length}
 use Rattle.paper.specs.Downloads.{faces}
 use Rattle.glyphs.proofs.Parts.{font-columns, own-none, own-some}
-use Rattle.text.proofs.Steps.{drawn-from}
-use Rattle.text.proofs.draw_found.Statement.{statement}
-use Rattle.text.proofs.draw_found.Tie as tie
+use Rattle.text_cells.proofs.Steps.{drawn-from}
+use Rattle.text_cells.proofs.draw_found.Statement.{statement}
+use Rattle.text_cells.proofs.draw_found.Tie as tie
 
 draw-alike-requires : tie.Need-draw-alike-requires
 draw-alike-requires c κs =

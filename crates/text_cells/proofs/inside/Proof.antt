@@ -1,7 +1,7 @@
--- `text::inside` meets its contract. Assumes nothing.
+-- `text_cells::inside` meets its contract. Assumes nothing.
 use borrow.Author.Needs.{needs}
-use Rattle.text.proofs.inside.Statement.{statement}
-use Rattle.text.proofs.inside.Tie as tie
+use Rattle.text_cells.proofs.inside.Statement.{statement}
+use Rattle.text_cells.proofs.inside.Tie as tie
 
 returns : tie.Need-returns
 returns c = rw (c .before .least .ensures, c .least2 .ensures)
