@@ -1,5 +1,5 @@
 // Text: a character drawn at the cursor, with the wrap that the mode asks for.
-// It may use text_cells for what is drawn, moves_tab for HT alone; it knows nothing of windows, settings or how bytes are read.
+// It may use text_tab for what is drawn, moves_tab for HT alone; it knows nothing of windows, settings or how bytes are read.
 // The downloads lent to it are those in force: none where the switch is off.
 // Its contract says that what was done is what the paper's definition of the same name means.
 use glyphs::Cell;
@@ -32,12 +32,12 @@ pub fn character(
     let mode = v.mode;
     let c = cell.columns;
     if x + c <= width {
-        return text_cells::draw_tab(g, mem, font, own, p, cell, code);
+        return text_tab::draw_tab(g, mem, font, own, p, cell, code);
     }
     if mode == 3 {
         let q = moves_tab::tab(g, mem, p, c, cell.rows);
-        return text_cells::draw_tab(g, mem, font, own, q, cell, code);
+        return text_tab::draw_tab(g, mem, font, own, q, cell, code);
     }
-    let q = text_cells::blank_tab(g, mem, p, cell);
-    text_cells::draw_tab(g, mem, font, own, q, cell, code)
+    let q = text_tab::blank_tab(g, mem, p, cell);
+    text_tab::draw_tab(g, mem, font, own, q, cell, code)
 }

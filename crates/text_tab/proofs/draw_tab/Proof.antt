@@ -1,4 +1,4 @@
--- `text_cells::draw_tab` meets its contract: whichever way, the code's cell is drawn. Assumes nothing.
+-- `text_tab::draw_tab` meets its contract: whichever way, the code's cell is drawn. Assumes nothing.
 use mathlib.Core.Path.{_≡_, sym, ap, _∙_}
 use mathlib.Core.Logic.{⊎-elim}
 use native.Mathlib.Omega.{arith}
@@ -11,9 +11,9 @@ use Rattle.glyphs.proofs.Parts.{font-columns, font-alone}
 use Rattle.cells_columns.specs.DrawnAs.{drawnAs}
 use Rattle.cells.specs.Drawn.{drawn}
 use Rattle.moves.proofs.Done.{does-stroke, does-after}
 use Rattle.text_cells.proofs.Steps.{drawn-from}
-use Rattle.text_cells.proofs.draw_tab.Statement.{statement}
-use Rattle.text_cells.proofs.draw_tab.Tie as tie
+use Rattle.text_tab.proofs.draw_tab.Statement.{statement}
+use Rattle.text_tab.proofs.draw_tab.Tie as tie
 
 draw-alike-requires : tie.Need-draw-alike-requires
 draw-alike-requires c κs =

@@ -1,12 +1,12 @@
--- `text_cells::blank_tab` meets its contract. Assumes nothing.
+-- `text_tab::blank_tab` meets its contract. Assumes nothing.
 use native.Mathlib.Omega.{arith}
 use borrow.Author.Needs.{needs}
 use Rattle.paper.specs.Cells.{cellWidth, cellHeight, blankStroke}
 use Rattle.paper.specs.Moves.{htOf, blankTab}
 use Rattle.cells.specs.Drawn.{blanked}
 use Rattle.moves.proofs.Done.{does-stroke, does-after}
-use Rattle.text_cells.proofs.blank_tab.Statement.{statement}
-use Rattle.text_cells.proofs.blank_tab.Tie as tie
+use Rattle.text_tab.proofs.blank_tab.Statement.{statement}
+use Rattle.text_tab.proofs.blank_tab.Tie as tie
 
 blank-requires : tie.Need-blank-requires
 blank-requires c κs = rw (c .before .inside .ensures) (omega arith)
