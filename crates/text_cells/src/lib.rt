@@ -57,3 +57,26 @@ pub fn draw_found(
     }
     cells::draw(g, mem, cols, w, style, r);
 }
+
+// The cell of a code, the part of it that lies in a rectangle. Without downloads it is one test more.
+pub fn draw_code(
+    g: Module,
+    mem: &mut [u8],
+    font: &[u8],
+    own: &[u8],
+    code: u8,
+    w: u8,
+    style: Style,
+    r: Rect,
+)
+    requires { ⌜ Within g r × Fits g (now mem) × (length (now font) ≡ fontLength g) × (0x20 ≤ code) ⌝ }
+    requires { ⌜ (1 ≤ style .across) × (style .down ≤ 2) × (r .height ≤ style .down) ⌝ }
+    ensures { λ _. ⌜ now (mem .exit) ≡ drawn g (glyphOf g (faces (now (font .entry)) (now (own .entry))) code) w style r (now (mem .entry)) ⌝ }
+{
+    if own.len() == 0 {
+        let cols = glyphs::font_glyph(g, font, code);
+        cells::draw_alike(g, mem, cols, w, style, r);
+        return;
+    }
+    draw_found(g, mem, font, own, code, w, style, r);
+}

@@ -1,5 +1,5 @@
 // Cells of text with their steps: the cell of a code, or an all-off one, drawn at the cursor, and HT after it.
-// It may use text_cells, glyphs and cells for what is drawn, moves and moves_tab for the cursor; it does not ask whether the cell fits.
+// It may use text_cells and cells for what is drawn, moves and moves_tab for the cursor; it does not ask whether the cell fits.
 // The downloads lent to it are those in force: none where the switch is off.
 // Each contract says that what was done is what the paper's definition of the same name means.
 use glyphs::Cell;
@@ -13,7 +13,7 @@ ghost use Rattle.glyphs.specs.Cell.{Drawable};
 ghost use Rattle.moves.specs.Does.{Does};
 ghost use Rattle.text_cells.specs.Inked.{Inked};
 
-// Draws the cell of a code at the cursor, then HT. Without downloads it is one test more.
+// Draws the cell of a code at the cursor, then HT.
 pub fn draw_tab(
     g: Module,
     mem: &mut [u8],
@@ -30,12 +30,7 @@ pub fn draw_tab(
     let v = p.view;
     let style = cell.style;
     let r = text_cells::inside(v, cell.columns, cell.rows);
-    if own.len() == 0 {
-        let cols = glyphs::font_glyph(g, font, code);
-        cells::draw_alike(g, mem, cols, cell.blanks, style, r);
-    } else {
-        text_cells::draw_found(g, mem, font, own, code, cell.blanks, style, r);
-    }
+    text_cells::draw_code(g, mem, font, own, code, cell.blanks, style, r);
     let q = moves::marked(p, r);
     moves_tab::tab(g, mem, q, cell.columns, cell.rows)
 }
