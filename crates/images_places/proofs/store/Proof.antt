@@ -1,10 +1,10 @@
--- `runs_images::store` meets its contract: a byte inside the range is stored, one outside is consumed. Assumes nothing.
+-- `images_places::store` meets its contract: a byte inside the range is stored, one outside is consumed. Assumes nothing.
 use borrow.Author.Needs.{needs}
 use Prim.Native.Nat.{_+_}
 use native.Mathlib.Omega.{arith}
-use Rattle.runs_images.proofs.Rows.{inside-facts, stored-in, stored-out}
-use Rattle.runs_images.proofs.store.Statement.{statement}
-use Rattle.runs_images.proofs.store.Tie as tie
+use Rattle.images_places.proofs.Stored.{inside-facts, stored-in, stored-out}
+use Rattle.images_places.proofs.store.Statement.{statement}
+use Rattle.images_places.proofs.store.Tie as tie
 
 store-requires : tie.Need-store-requires
 store-requires c κs =

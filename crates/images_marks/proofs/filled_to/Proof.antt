@@ -1,8 +1,8 @@
--- `runs_images::filled_to` meets its contract. Assumes nothing.
+-- `images_marks::filled_to` meets its contract. Assumes nothing.
 use borrow.Author.Needs.{needs}
 use native.Mathlib.Omega.{arith}
-use Rattle.runs_images.proofs.filled_to.Statement.{statement}
-use Rattle.runs_images.proofs.filled_to.Tie as tie
+use Rattle.images_marks.proofs.filled_to.Statement.{statement}
+use Rattle.images_marks.proofs.filled_to.Tie as tie
 
 returns : tie.Need-returns
 returns c = rw (c .mark-row2 .ensures, c .before .mark-row .ensures, c .before .before .before .least .ensures)

@@ -1,9 +1,9 @@
--- `runs_images::mark_row` meets its contract. Assumes nothing.
+-- `images_marks::mark_row` meets its contract. Assumes nothing.
 use borrow.Author.Needs.{needs}
 use native.Mathlib.Omega.{arith}
-use Rattle.runs_images.specs.Images.{rowMark}
-use Rattle.runs_images.proofs.mark_row.Statement.{statement}
-use Rattle.runs_images.proofs.mark_row.Tie as tie
+use Rattle.images_marks.specs.Marks.{rowMark}
+use Rattle.images_marks.proofs.mark_row.Statement.{statement}
+use Rattle.images_marks.proofs.mark_row.Tie as tie
 
 returns : tie.Need-returns
 unfolding rowMark

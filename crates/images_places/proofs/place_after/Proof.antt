@@ -1,10 +1,10 @@
--- `runs_images::place_after` meets its contract. Assumes nothing.
+-- `images_places::place_after` meets its contract. Assumes nothing.
 use borrow.Author.Needs.{needs}
 use Prim.Native.Nat.{_+_}
 use native.Mathlib.Omega.{arith}
 use borrow.Author.Tests.{lt-ltb, le-ltb}
-use Rattle.runs_images.proofs.place_after.Statement.{statement}
-use Rattle.runs_images.proofs.place_after.Tie as tie
+use Rattle.images_places.proofs.place_after.Statement.{statement}
+use Rattle.images_places.proofs.place_after.Tie as tie
 
 returns : tie.Need-returns
 returns c = let a = c .before .args in rw (lt-ltb (a .row + 1) (a .height) (omega arith))
