@@ -11,7 +11,7 @@ use Rattle.paper.specs.declared.View.{View}
 use Rattle.paper.specs.Strokes.{applyAll}
 use Rattle.paper.specs.Carry.{imageStrokes}
 use Rattle.laws_memory.proofs.Tests.{and-parts}
-use Rattle.cells.specs.Drawn.{imaged}
+use Rattle.cells_bytes.specs.Stored.{imaged}
 
 -- what the test for a byte in the range says
 pub inside-facts : (x w y h : ℕ) → (ltb x w && ltb y h) ≡ true → (x < w) × (y < h)

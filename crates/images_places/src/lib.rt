@@ -1,5 +1,5 @@
 // Places of images: an image's byte stored, and the place of the next.
-// It may use cells for a byte that is stored. It marks nothing, and knows no piece of bytes.
+// It may use cells_bytes for a byte that is stored. It marks nothing, and knows no piece of bytes.
 use paper::Module;
 use paper::Style;
 use paper::View;
@@ -59,6 +59,6 @@ pub fn store(g: Module, mem: &mut [u8], v: View, style: Style, column: u16, row:
     let x = v.x + (column as usize);
     let y = v.y + (row as usize);
     if (x < v.width) & (y < v.height) {
-        cells::store(g, mem, style, v.left + x, v.top + y, byte);
+        cells_bytes::store(g, mem, style, v.left + x, v.top + y, byte);
     }
 }

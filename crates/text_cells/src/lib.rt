@@ -1,5 +1,5 @@
 // Cells of text: what of a cell at the cursor lies in the range, and the cell of a code that may be a download.
-// It may use dots, glyphs and cells; it moves no cursor and marks nothing.
+// It may use dots, glyphs, cells and cells_any; it moves no cursor and marks nothing.
 // The downloads lent to it are those in force: none where the switch is off.
 use paper::Module;
 use paper::Rect;
@@ -55,7 +55,7 @@ pub fn draw_found(
         cells::draw_alike(g, mem, fonts, w, style, r);
         return;
     }
-    cells::draw(g, mem, cols, w, style, r);
+    cells_any::draw(g, mem, cols, w, style, r);
 }
 
 // The cell of a code, the part of it that lies in a rectangle. Without downloads it is one test more.

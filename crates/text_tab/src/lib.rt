@@ -1,5 +1,5 @@
 // Cells of text with their steps: the cell of a code, or an all-off one, drawn at the cursor, and HT after it.
-// It may use text_cells and cells for what is drawn, moves and moves_tab for the cursor; it does not ask whether the cell fits.
+// It may use text_cells and cells_bytes for what is drawn, moves and moves_tab for the cursor; it does not ask whether the cell fits.
 // The downloads lent to it are those in force: none where the switch is off.
 // Each contract says that what was done is what the paper's definition of the same name means.
 use glyphs::Cell;
@@ -43,7 +43,7 @@ pub fn blank_tab(g: Module, mem: &mut [u8], p: Spot, cell: Cell) -> Spot
     let v = p.view;
     let style = cell.style;
     let r = text_cells::inside(v, cell.columns, cell.rows);
-    cells::blank(g, mem, style, r);
+    cells_bytes::blank(g, mem, style, r);
     let q = moves::marked(p, r);
     moves_tab::tab(g, mem, q, cell.columns, cell.rows)
 }

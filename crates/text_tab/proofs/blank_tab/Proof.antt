@@ -3,7 +3,7 @@ use native.Mathlib.Omega.{arith}
 use borrow.Author.Needs.{needs}
 use Rattle.paper.specs.Cells.{cellWidth, cellHeight, blankStroke}
 use Rattle.paper.specs.Moves.{htOf, blankTab}
-use Rattle.cells.specs.Drawn.{blanked}
+use Rattle.cells_bytes.specs.Stored.{blanked}
 use Rattle.moves.proofs.Done.{does-stroke, does-after}
 use Rattle.text_tab.proofs.blank_tab.Statement.{statement}
 use Rattle.text_tab.proofs.blank_tab.Tie as tie

@@ -1,4 +1,4 @@
--- `cells::blank` meets its contract. The loop's invariant: the first j columns are mixed in. Assumes nothing.
+-- `cells_bytes::blank` meets its contract. The loop's invariant: the first j columns are mixed in. Assumes nothing.
 use mathlib.Core.Path.{_≡_, refl, _∙_}
 use Prim.Native.Nat.{_≤_, _-_}
 use borrow.Author.Needs.{needs}
@@ -9,10 +9,10 @@ use Rattle.paper.specs.Strokes.{rectAt, rectMap}
 use Rattle.paper.specs.Cells.{allOff}
 use Rattle.laws_bytes.proofs.Drawn.{blank-byte}
 use Rattle.laws_memory.proofs.Rects.{rect-none}
-use Rattle.cells.specs.Drawn.{blanked}
+use Rattle.cells_bytes.specs.Stored.{blanked}
 use Rattle.cells_columns.proofs.Columns.{either, inked, cell-turn, cell-end}
-use Rattle.cells.proofs.blank.Statement.{statement}
-use Rattle.cells.proofs.blank.Tie as tie
+use Rattle.cells_bytes.proofs.blank.Statement.{statement}
+use Rattle.cells_bytes.proofs.blank.Tie as tie
 
 abbrev Inv-loop : tie.InvT-loop
 Inv-loop g mem₀ style r v t j₀ width mem j =

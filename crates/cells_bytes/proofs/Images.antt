@@ -12,7 +12,7 @@ use Rattle.laws_bytes.proofs.Penned.{penned-dots}
 use Rattle.laws_memory.specs.Rectangles.{Bytes}
 use Rattle.laws_memory.proofs.Rects.{rect-same}
 use Rattle.cells_columns.specs.Mixed.{mixedAt}
-use Rattle.cells.specs.Drawn.{imaged}
+use Rattle.cells_bytes.specs.Stored.{imaged}
 
 -- the one that stands there is mixed with it, as the paper has it
 pub imaged-by : (g : Module) (y : Style) (x top v u : ℕ) (m m′ : List ℕ) → v < 256 → Bytes m → u ≡ reversedByte y v

@@ -1,13 +1,13 @@
--- `cells::draw` meets its contract, by its tests. Assumes nothing.
+-- `cells_any::draw` meets its contract, by its tests. Assumes nothing.
 use mathlib.Core.Path.{_≡_}
 use Prim.Native.Nat.{_≤_}
 use native.Mathlib.Omega.{arith}
 use borrow.Author.Needs.{needs}
 use lib.ListN.{length}
 use Rattle.cells_columns.proofs.Stamps.{bare-end}
-use Rattle.cells.proofs.Plain.{bare-facts, drawn-other}
-use Rattle.cells.proofs.draw.Statement.{statement}
-use Rattle.cells.proofs.draw.Tie as tie
+use Rattle.cells_any.proofs.Bare.{bare-facts, drawn-other}
+use Rattle.cells_any.proofs.draw.Statement.{statement}
+use Rattle.cells_any.proofs.draw.Tie as tie
 
 -- the cell is not enlarged, and the glyph fills it
 bare : (c : tie.Then2)

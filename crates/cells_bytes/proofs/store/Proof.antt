@@ -1,8 +1,8 @@
--- `cells::store` meets its contract: a byte's dots through reverse and mixing. Assumes nothing.
+-- `cells_bytes::store` meets its contract: a byte's dots through reverse and mixing. Assumes nothing.
 use borrow.Author.Needs.{needs}
-use Rattle.cells.proofs.Images.{imaged-by}
-use Rattle.cells.proofs.store.Statement.{statement}
-use Rattle.cells.proofs.store.Tie as tie
+use Rattle.cells_bytes.proofs.Images.{imaged-by}
+use Rattle.cells_bytes.proofs.store.Statement.{statement}
+use Rattle.cells_bytes.proofs.store.Tie as tie
 
 returns : tie.Need-returns
 returns c =
