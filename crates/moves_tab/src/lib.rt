@@ -1,5 +1,6 @@
 // The move HT over a view: the cursor steps, wraps to the next line of cells, or pushes its rows left.
-// It may use moves for what the moves share, dots and dots_shift; it knows nothing of characters, windows, settings or how bytes are read.
+// It may use moves and moves_views for what the moves share, dots and dots_shift; it knows nothing of characters, windows, settings or how
+// bytes are read.
 // Each contract says that what was done is what the paper's move of the same name means.
 use moves::Spot;
 use paper::Module;
@@ -17,7 +18,7 @@ fn next_line(v: View, l: usize) -> View
     requires { ⌜ (v .y < v .height) × (l ≤ v .height) × (v .height < 65536) ⌝ }
     ensures { λ r. ⌜ r ≡ nextLine v l ⌝ }
 {
-    if moves::room_below(v, l) {
+    if moves_views::room_below(v, l) {
         return moves::to(v, 0, v.y + l);
     }
     moves::to(v, 0, 0)
@@ -31,7 +32,7 @@ fn next_line_up(g: Module, mem: &mut [u8], p: Spot, l: usize) -> Spot
     let v = p.view;
     let y = v.y;
     let height = v.height;
-    if moves::room_below(v, l) {
+    if moves_views::room_below(v, l) {
         return moves::place(p, 0, y + l);
     }
     let q = moves::scroll(g, mem, p, l);

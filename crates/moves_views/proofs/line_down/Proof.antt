@@ -1,8 +1,8 @@
--- `moves::line_down` meets its contract. Assumes nothing.
+-- `moves_views::line_down` meets its contract. Assumes nothing.
 use borrow.Author.Needs.{needs}
 use Rattle.paper.specs.Moves.{lineDown}
-use Rattle.moves.proofs.line_down.Statement.{statement}
-use Rattle.moves.proofs.line_down.Tie as tie
+use Rattle.moves_views.proofs.line_down.Statement.{statement}
+use Rattle.moves_views.proofs.line_down.Tie as tie
 
 returns : tie.Need-returns
 unfolding lineDown

@@ -1,11 +1,11 @@
--- `moves::line_feed` meets its contract. By the mode. Assumes nothing.
+-- `moves_line::line_feed` meets its contract. By the mode. Assumes nothing.
 use mathlib.Core.Path.{refl}
 use borrow.Author.Tests.{eq-eqb, ne-eqb}
 use borrow.Author.Needs.{needs}
 use Rattle.paper.specs.Moves.{lineFeedOf}
 use Rattle.moves.proofs.Done.{spot-at, does-only}
-use Rattle.moves.proofs.line_feed.Statement.{statement}
-use Rattle.moves.proofs.line_feed.Tie as tie
+use Rattle.moves_line.proofs.line_feed.Statement.{statement}
+use Rattle.moves_line.proofs.line_feed.Tie as tie
 
 returns : tie.Need-returns
 unfolding lineFeedOf

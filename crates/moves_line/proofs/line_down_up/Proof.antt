@@ -1,9 +1,9 @@
--- `moves::line_down_up` meets its contract. Assumes nothing.
+-- `moves_line::line_down_up` meets its contract. Assumes nothing.
 use borrow.Author.Needs.{needs}
 use Rattle.paper.specs.Moves.{lineDownUp}
 use Rattle.moves.proofs.Done.{does-only}
-use Rattle.moves.proofs.line_down_up.Statement.{statement}
-use Rattle.moves.proofs.line_down_up.Tie as tie
+use Rattle.moves_line.proofs.line_down_up.Statement.{statement}
+use Rattle.moves_line.proofs.line_down_up.Tie as tie
 
 returns : tie.Need-returns
 unfolding lineDownUp

@@ -1,12 +1,12 @@
--- `moves::back` meets its contract. Assumes nothing.
+-- `moves_views::back` meets its contract. Assumes nothing.
 use mathlib.Core.Bool.{not}
 use lib.Dec.{leb, eqb, leb→le}
 use borrow.Author.Tests.{le-leb, lt-leb}
 use borrow.Author.Needs.{needs}
 use Rattle.paper.specs.Moves.{backOf}
 use Rattle.laws_memory.proofs.Tests.{and-1}
-use Rattle.moves.proofs.back.Statement.{statement}
-use Rattle.moves.proofs.back.Tie as tie
+use Rattle.moves_views.proofs.back.Statement.{statement}
+use Rattle.moves_views.proofs.back.Tie as tie
 
 returns : tie.Need-returns
 unfolding backOf
