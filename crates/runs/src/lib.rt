@@ -1,5 +1,5 @@
 // Runs: characters that follow each other in a piece, in one loop.
-// It may use runs_line for those of one line, text for a character that wraps, text_cells for what is drawn, moves and moves_tab for the
+// It may use runs_line for those of one line, text for a character that wraps, text_cells for what is drawn, moves and moves_push for the
 // cursor and what is marked. It knows no state, so that the compiler need not lay one down for each byte.
 // Each contract says that the run is the fold of its single bytes. The downloads lent to it are those in force.
 use glyphs::Cell;
@@ -33,7 +33,7 @@ fn push(g: Module, mem: &mut [u8], font: &[u8], own: &[u8], p: Spot, cell: Cell,
     let r = text_cells::inside(v, cell.columns, cell.rows);
     text_cells::draw_code(g, mem, font, own, code, cell.blanks, style, r);
     let q = moves::marked(p, r);
-    moves_tab::push_left(g, mem, q, cell.columns, cell.rows)
+    moves_push::push_left(g, mem, q, cell.columns, cell.rows)
 }
 
 // One character where the cursor's line has no room for another after it.

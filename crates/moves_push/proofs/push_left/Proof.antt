@@ -1,11 +1,11 @@
--- `moves_tab::push_left` meets its contract. Assumes nothing.
+-- `moves_push::push_left` meets its contract. Assumes nothing.
 use borrow.Author.Needs.{needs}
 use native.Mathlib.Omega.{arith}
 use Rattle.paper.specs.Moves.{pushLeft}
 use Rattle.laws_memory.specs.Rectangles.{movedLeft}
 use Rattle.moves.proofs.Done.{does-stroke}
-use Rattle.moves_tab.proofs.push_left.Statement.{statement}
-use Rattle.moves_tab.proofs.push_left.Tie as tie
+use Rattle.moves_push.proofs.push_left.Statement.{statement}
+use Rattle.moves_push.proofs.push_left.Tie as tie
 
 move-left-requires : tie.Need-move-left-requires
 move-left-requires c κs = rw (c .before .range .ensures) (omega arith)
