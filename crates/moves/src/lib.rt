@@ -1,4 +1,4 @@
-// Moves: BS, LF and CLR over a view: where the cursor goes, what memory holds, how the spans grow; and what HT shares with them.
+// Moves: what the moves over a view share: where the cursor goes, what memory holds, how the spans grow; and CLR.
 // It may use the dots, their shifts and the spans; it knows nothing of characters, windows, settings or how bytes are read.
 // Each contract says that what was done is what the paper's move of the same name means.
 use paper::Module;
@@ -6,10 +6,10 @@ use paper::Rect;
 use paper::Spans;
 use paper::View;
 ghost use mathlib.Core.Path.{_≡_};
-ghost use Prim.Native.Nat.{_+_, _≤_, _<_};
+ghost use Prim.Native.Nat.{_+_, _<_};
 ghost use Rattle.paper.specs.Strokes.{markRect};
 ghost use Rattle.paper.specs.Cells.{rangeOf, upStroke};
-ghost use Rattle.paper.specs.Moves.{to, roomBelow, writing, backOf, lineDown, lineDownUp, lineFeedOf, clearOf};
+ghost use Rattle.paper.specs.Moves.{to, writing, clearOf};
 ghost use Rattle.laws_memory.specs.Rectangles.{Fits};
 ghost use Rattle.laws_state.specs.Room.{Usable, InMemory};
 ghost use Rattle.moves.specs.Does.{Does, spot};
@@ -64,28 +64,6 @@ pub fn marked(p: Spot, r: Rect) -> Spot
     }
 }
 
-// Whether another line of cells fits below.
-pub fn room_below(v: View, l: usize) -> bool
-    requires { ⌜ (v .y < v .height) × (l ≤ v .height) × (v .height < 65536) ⌝ }
-    ensures { λ r. ⌜ r ≡ roomBelow v l ⌝ }
-{
-    let y = v.y;
-    y + 2 * l <= v.height
-}
-
-// The line of cells below; without room, the top one in the column that the module says.
-fn line_down(g: Module, v: View, l: usize) -> View
-    requires { ⌜ (v .y < v .height) × (l ≤ v .height) × (v .height < 65536) ⌝ }
-    ensures { λ r. ⌜ r ≡ lineDown g v l ⌝ }
-{
-    let x = v.x;
-    let y = v.y;
-    if room_below(v, l) {
-        return to(v, x, y + l);
-    }
-    if g.keeps { to(v, x, 0) } else { to(v, 0, 0) }
-}
-
 // ---- the moves
 
 // The range moves up l rows, and all of it is written; the cursor stays.
@@ -97,57 +75,6 @@ pub fn scroll(g: Module, mem: &mut [u8], p: Spot, l: usize) -> Spot
     let r = range(v);
     dots_shift::scroll_up(g, mem, r, l);
     marked(p, r)
-}
-
-// BS.
-pub fn back(v: View, c: usize, l: usize) -> View
-    requires { ⌜ c ≤ v .width ⌝ }
-    ensures { λ r. ⌜ r ≡ backOf v c l ⌝ }
-{
-    let x = v.x;
-    let y = v.y;
-    let width = v.width;
-    let mode = v.mode;
-    if c <= x {
-        return to(v, x - c, y);
-    }
-    if (mode != 3) & (l <= y) {
-        return to(v, width - c, y - l);
-    }
-    v
-}
-
-// The line of cells below; without room the range scrolls up under the cursor.
-fn line_down_up(g: Module, mem: &mut [u8], p: Spot, l: usize) -> Spot
-    requires { ⌜ Usable g × (InMemory g (p .view) × ((l ≤ p .view .height) × Fits g (now mem))) ⌝ }
-    ensures { λ r. ⌜ Does g (p .spans) (now (mem .entry)) r (now (mem .exit)) (lineDownUp g (p .view) l) ⌝ }
-{
-    let v = p.view;
-    let x = v.x;
-    let y = v.y;
-    if room_below(v, l) {
-        return place(p, x, y + l);
-    }
-    scroll(g, mem, p, l)
-}
-
-// LF.
-pub fn line_feed(g: Module, mem: &mut [u8], p: Spot, l: usize) -> Spot
-    requires { ⌜ Usable g × (InMemory g (p .view) × ((l ≤ p .view .height) × Fits g (now mem))) ⌝ }
-    ensures { λ r. ⌜ Does g (p .spans) (now (mem .entry)) r (now (mem .exit)) (lineFeedOf g (p .view) l) ⌝ }
-{
-    let v = p.view;
-    let mode = v.mode;
-    if mode == 1 {
-        return Spot {
-            view: line_down(g, v, l),
-            ..p
-        };
-    }
-    if mode == 2 {
-        return line_down_up(g, mem, p, l);
-    }
-    p
 }
 
 // CLR.

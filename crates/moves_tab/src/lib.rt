@@ -1,13 +1,13 @@
 // The move HT over a view: the cursor steps, wraps to the next line of cells, or pushes its rows left.
-// It may use moves for what the moves share, dots and dots_shift; it knows nothing of characters, windows, settings or how bytes are read.
+// It may use moves and moves_views for what the moves share, and moves_push; it knows nothing of characters, windows, settings or how
+// bytes are read.
 // Each contract says that what was done is what the paper's move of the same name means.
 use moves::Spot;
 use paper::Module;
-use paper::Rect;
 use paper::View;
 ghost use mathlib.Core.Path.{_≡_};
-ghost use Prim.Native.Nat.{_+_, _*_, _≤_, _<_};
-ghost use Rattle.paper.specs.Moves.{nextLine, nextLineUp, pushLeft, htOf};
+ghost use Prim.Native.Nat.{_≤_, _<_};
+ghost use Rattle.paper.specs.Moves.{nextLine, nextLineUp, htOf};
 ghost use Rattle.laws_memory.specs.Rectangles.{Fits};
 ghost use Rattle.laws_state.specs.Room.{Usable, InMemory, Room};
 ghost use Rattle.moves.specs.Does.{Does};
@@ -17,7 +17,7 @@ fn next_line(v: View, l: usize) -> View
     requires { ⌜ (v .y < v .height) × (l ≤ v .height) × (v .height < 65536) ⌝ }
     ensures { λ r. ⌜ r ≡ nextLine v l ⌝ }
 {
-    if moves::room_below(v, l) {
+    if moves_views::room_below(v, l) {
         return moves::to(v, 0, v.y + l);
     }
     moves::to(v, 0, 0)
@@ -31,29 +31,11 @@ fn next_line_up(g: Module, mem: &mut [u8], p: Spot, l: usize) -> Spot
     let v = p.view;
     let y = v.y;
     let height = v.height;
-    if moves::room_below(v, l) {
+    if moves_views::room_below(v, l) {
         return moves::place(p, 0, y + l);
     }
     let q = moves::scroll(g, mem, p, l);
     moves::place(q, 0, height - l)
-}
-
-// The cursor's rows move left until a cell fits at the right end.
-pub fn push_left(g: Module, mem: &mut [u8], p: Spot, c: usize, l: usize) -> Spot
-    requires { ⌜ Usable g × (Room g (p .view) c l × ((p .view .width < p .view .x + 2 * c) × Fits g (now mem))) ⌝ }
-    ensures { λ r. ⌜ Does g (p .spans) (now (mem .entry)) r (now (mem .exit)) (pushLeft g (p .view) c l) ⌝ }
-{
-    let v = p.view;
-    let x = v.x;
-    let y = v.y;
-    let width = v.width;
-    let rows = Rect {
-        top: v.top + y,
-        height: dots::least(l, v.height - y),
-        ..moves::range(v)
-    };
-    dots_shift::move_left(g, mem, rows, x + 2 * c - width);
-    moves::place(moves::marked(p, rows), width - c, y)
 }
 
 // HT.
@@ -78,5 +60,5 @@ pub fn tab(g: Module, mem: &mut [u8], p: Spot, c: usize, l: usize) -> Spot
     if mode == 2 {
         return next_line_up(g, mem, p, l);
     }
-    push_left(g, mem, p, c, l)
+    moves_push::push_left(g, mem, p, c, l)
 }

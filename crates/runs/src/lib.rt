@@ -1,6 +1,6 @@
 // Runs: characters that follow each other in a piece, in one loop.
-// It may use runs_line for those of one line, text for a character that wraps, glyphs and cells for what is drawn, moves and moves_tab for
-// the cursor and what is marked. It knows no state, so that the compiler need not lay one down for each byte.
+// It may use runs_line for those of one line, text for a character that wraps, text_cells for what is drawn, moves and moves_push for the
+// cursor and what is marked. It knows no state, so that the compiler need not lay one down for each byte.
 // Each contract says that the run is the fold of its single bytes. The downloads lent to it are those in force.
 use glyphs::Cell;
 use moves::Spot;
@@ -17,7 +17,7 @@ ghost use Rattle.laws_memory.specs.Rectangles.{Fits};
 ghost use Rattle.laws_state.specs.Room.{Usable, Room};
 ghost use Rattle.glyphs.specs.Cell.{cellOf};
 ghost use Rattle.moves.specs.Does.{Does};
-ghost use Rattle.text.specs.Inked.{Inked};
+ghost use Rattle.text_cells.specs.Inked.{Inked};
 ghost use Rattle.runs_line.specs.Went.{Went};
 ghost use Rattle.runs.specs.Runs.{Ran};
 
@@ -30,15 +30,10 @@ fn push(g: Module, mem: &mut [u8], font: &[u8], own: &[u8], p: Spot, cell: Cell,
 {
     let v = p.view;
     let style = cell.style;
-    let r = text::inside(v, cell.columns, cell.rows);
-    if own.len() == 0 {
-        let cols = glyphs::font_glyph(g, font, code);
-        cells::draw_alike(g, mem, cols, cell.blanks, style, r);
-    } else {
-        text::draw_found(g, mem, font, own, code, cell.blanks, style, r);
-    }
+    let r = text_cells::inside(v, cell.columns, cell.rows);
+    text_cells::draw_code(g, mem, font, own, code, cell.blanks, style, r);
     let q = moves::marked(p, r);
-    moves_tab::push_left(g, mem, q, cell.columns, cell.rows)
+    moves_push::push_left(g, mem, q, cell.columns, cell.rows)
 }
 
 // One character where the cursor's line has no room for another after it.

@@ -13,7 +13,7 @@ use Rattle.paper.specs.declared.View.{View}
 use Rattle.paper.specs.Strokes.{Stroke, applyAll}
 use Rattle.paper.specs.Carry.{imageStrokes}
 use Rattle.laws_state.specs.Room.{InMemory}
-use Rattle.runs_images.specs.Images.{fromCursor}
+use Rattle.images_places.specs.Places.{fromCursor}
 
 -- so far from the cursor is inside the range, counted from the cursor or from the range's edge
 inside-same : (at room n : ℕ) → at ≤ room → ltb (0 + n) (room - at) ≡ ltb (at + n) room

@@ -16,8 +16,10 @@ use Rattle.laws_state.specs.Runs.{image, storedOn, imageBytesOf}
 use Rattle.laws_state.proofs.Runs.{column-next}
 use Rattle.laws_state.proofs.Taken.{image-bytes-more, image-bytes-whole, image-bytes-end}
 use Rattle.moves.specs.declared.Spot.{Spot}
-use Rattle.runs_images.specs.declared.Place.{Place}
-use Rattle.runs_images.specs.Images.{placeAfter, marksTo, filledTo, Stocked}
+use Rattle.images_places.specs.declared.Place.{Place}
+use Rattle.images_places.specs.Places.{placeAfter}
+use Rattle.images_marks.specs.Marks.{marksTo, filledTo}
+use Rattle.runs_images.specs.Stocked.{Stocked}
 use Rattle.runs_images.proofs.Rows.{marks-begin, marks-next}
 
 -- the next place is one of the image's rows, and none before

@@ -1,39 +1,19 @@
--- An image's bytes: one stored, and its rows marked once, which is what the bytes mark one by one from any place of the image to any
--- later one. Assumes nothing.
+-- An image's rows marked once, which is what its bytes mark one by one from any place of the image to any later one. Assumes nothing.
 use mathlib.Core.Path.{_≡_, refl, sym, ap, _∙_}
-use mathlib.Core.Bool.{Bool, true, false, cond, _&&_}
+use mathlib.Core.Bool.{Bool, true, false, cond}
 use mathlib.Core.List.{List}
 use Prim.Native.Nat.{ℕ, zero, suc, _+_, _-_, _<_, _≤_, min}
 use native.Mathlib.Omega.{arith}
 use lib.Dec.{ltb}
 use borrow.Author.Tests.{ltb-true, ltb-false, le-ltb}
-use Rattle.paper.specs.declared.Module.{Module}
 use Rattle.paper.specs.declared.Span.{Span}
 use Rattle.paper.specs.declared.Style.{Style}
 use Rattle.paper.specs.declared.View.{View}
-use Rattle.paper.specs.Strokes.{rectAt, applyAll, markRect, markAll}
+use Rattle.paper.specs.Strokes.{rectAt, markRect, markAll}
 use Rattle.paper.specs.Carry.{imageStrokes}
-use Rattle.laws_memory.proofs.Tests.{and-parts}
-use Rattle.cells.specs.Drawn.{imaged}
-use Rattle.runs_images.specs.Images.{placeAfter, rowMark, bottomOf, marksTo}
 use Rattle.laws_glass.proofs.Marks.{mark-at, mark-none, mark-flat, mark-beside, mark-swap}
-
--- what the test for a byte in the range says
-pub inside-facts : (x w y h : ℕ) → (ltb x w && ltb y h) ≡ true → (x < w) × (y < h)
-inside-facts x w y h t = let f = and-parts (ltb x w) (ltb y h) t in (ltb-true x w (f .0), ltb-true y h (f .1))
-
--- a byte in the range is stored, one outside is consumed
-module _ (g : Module) (v : View) (y : Style) (column row b : ℕ) (m : List ℕ) where
-  pub stored-in : {m′ : List ℕ} → (ltb (v .x + column) (v .width) && ltb (v .y + row) (v .height)) ≡ true
-      → m′ ≡ imaged g y (v .left + (v .x + column)) (v .top + (v .y + row)) b m → m′ ≡ applyAll g m (imageStrokes v y column row b)
-  unfolding imageStrokes imaged
-  stored-in t e = rw t e
-
-  pub stored-out : (ltb (v .x + column) (v .width) && ltb (v .y + row) (v .height)) ≡ false → m ≡ applyAll g m (imageStrokes v y column row b)
-  unfolding imageStrokes
-  stored-out t = rw t
-
--- ---- marks
+use Rattle.images_places.specs.Places.{placeAfter}
+use Rattle.images_marks.specs.Marks.{rowMark, bottomOf, marksTo}
 
 module _ (v : View) where
   -- no columns

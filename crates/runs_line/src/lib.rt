@@ -1,6 +1,6 @@
 // A line of characters: those of a piece that stand in the cursor's line with room for another after each, in one loop.
-// It may use text, glyphs and cells for what is drawn, moves for the cursor and what is marked. It knows no state, so that the compiler
-// need not lay one down for each byte, and what a line has written is marked once.
+// It may use text_cells, glyphs and cells for what is drawn, moves for the cursor and what is marked. It knows no state, so that the
+// compiler need not lay one down for each byte, and what a line has written is marked once.
 // Its contract says that the line is the fold of its single bytes. The downloads lent to it are those in force.
 use glyphs::Cell;
 use moves::Spot;
@@ -16,7 +16,7 @@ ghost use Rattle.paper.specs.Downloads.{faces, glyphOf};
 ghost use Rattle.laws_memory.specs.Rectangles.{Fits, Within};
 ghost use Rattle.laws_state.specs.Room.{Usable, Room};
 ghost use Rattle.cells.specs.Drawn.{drawn};
-ghost use Rattle.text.specs.Inked.{Inked};
+ghost use Rattle.text_cells.specs.Inked.{Inked};
 ghost use Rattle.runs_line.specs.Went.{Went, penAt, drawnTo};
 
 // Where a run of characters ended: the spot, and the place after its last byte.
@@ -67,7 +67,7 @@ fn draw_code(g: Module, mem: &mut [u8], font: &[u8], own: &[u8], code: u8, cell:
         return;
     }
     let style = cell.style;
-    text::draw_found(g, mem, font, own, code, cell.blanks, style, r);
+    text_cells::draw_found(g, mem, font, own, code, cell.blanks, style, r);
 }
 
 // The characters that stand in the cursor's line with room for another after each.

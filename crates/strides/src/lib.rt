@@ -1,5 +1,6 @@
 // Strides: what of a piece is carried out without a state: a move 08h to 0Dh on a spot, reverse and mixing on a style.
-// It may use moves and moves_tab for the moves. It knows no state, so that the compiler need not lay one down for each command.
+// It may use moves, moves_views, moves_line and moves_tab for the moves. It knows no state, so that the compiler need not lay one down for
+// each command.
 // Each contract says what the paper's definitions give.
 use moves::Spot;
 use paper::Module;
@@ -32,11 +33,11 @@ pub fn step(g: Module, mem: &mut [u8], p: Spot, c: usize, l: usize, b: u8) -> Sp
     let v = p.view;
     match b {
         0x08 => Spot {
-            view: moves::back(v, c, l),
+            view: moves_views::back(v, c, l),
             ..p
         },
         0x09 => moves_tab::tab(g, mem, p, c, l),
-        0x0A => moves::line_feed(g, mem, p, l),
+        0x0A => moves_line::line_feed(g, mem, p, l),
         0x0B => Spot {
             view: moves::to(v, 0, 0),
             ..p

@@ -26,7 +26,7 @@ use Rattle.laws_state.proofs.Sheets.{at-settings, at-half, sheet-view, sheet-ex
 use Rattle.laws_state.proofs.Tests.{by-cond}
 use Rattle.glyphs.specs.Cell.{cellOf}
 use Rattle.moves.specs.declared.Spot.{Spot}
-use Rattle.text.specs.Inked.{Inked}
+use Rattle.text_cells.specs.Inked.{Inked}
 use Rattle.runs_line.specs.Went.{under}
 use Rattle.strides.specs.Strides.{styledBy}
 use Rattle.turns_stretch.specs.Desk.{restyled, onDesk}

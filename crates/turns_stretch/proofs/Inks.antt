@@ -9,7 +9,7 @@ use Rattle.paper.specs.declared.Settings.{Settings}
 use Rattle.paper.specs.Panel.{fontLength}
 use Rattle.paper.specs.Bounds.{settingsOk}
 use Rattle.glyphs.specs.Cell.{cellOf}
-use Rattle.text.specs.Inked.{Inked}
+use Rattle.text_cells.specs.Inked.{Inked}
 use Rattle.paper.specs.Settings.{inEnlargement}
 use Rattle.paper.specs.Reading.{between}
 use Rattle.laws_bytes.proofs.Tests.{both-of, between-facts}

@@ -4,7 +4,7 @@ use native.Mathlib.Omega.{arith}
 use Rattle.paper.specs.Downloads.{faces}
 use Rattle.runs.proofs.Lines.{room-after}
 use Rattle.runs_line.proofs.Lining.{went-begin, went-next}
-use Rattle.text.proofs.Steps.{sized-room}
+use Rattle.text_cells.proofs.Steps.{sized-room}
 use Rattle.runs.proofs.stretch.Statement.{statement}
 use Rattle.runs.proofs.stretch.Tie as tie
 

@@ -7,7 +7,7 @@ use Rattle.paper.specs.Strokes.{rectAt}
 use Rattle.paper.specs.Downloads.{faces}
 use Rattle.glyphs.proofs.Parts.{font-columns, font-alone}
 use Rattle.cells.specs.Drawn.{drawn}
-use Rattle.text.proofs.Steps.{drawn-from}
+use Rattle.text_cells.proofs.Steps.{drawn-from}
 use Rattle.runs_line.proofs.draw_code.Statement.{statement}
 use Rattle.runs_line.proofs.draw_code.Tie as tie
 

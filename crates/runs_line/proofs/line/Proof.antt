@@ -8,7 +8,7 @@ use lib.ListN.{length, getD}
 use Rattle.paper.specs.declared.Rect.{Rect}
 use Rattle.paper.specs.Downloads.{faces}
 use Rattle.paper.specs.Strokes.{rectAt}
-use Rattle.text.proofs.Steps.{sized-room}
+use Rattle.text_cells.proofs.Steps.{sized-room}
 use Rattle.runs_line.proofs.Lining.{Lining, lining-begin, room-for, lining-next, lining-end}
 use Rattle.runs_line.proofs.line.Statement.{statement}
 use Rattle.runs_line.proofs.line.Tie as tie

@@ -9,7 +9,8 @@ use Rattle.paper.specs.Cells.{cellWidth, cellHeight}
 use Rattle.paper.specs.Moves.{htOf, drawTab, blankTab, characterOf}
 use Rattle.laws_state.proofs.Moves.{ht-kept, blank-kept}
 use Rattle.moves.proofs.Done.{does-after}
-use Rattle.text.proofs.Steps.{sized-room, ready-after}
+use Rattle.text_cells.proofs.Steps.{sized-room}
+use Rattle.text.proofs.Steps.{ready-after}
 use Rattle.text.proofs.character.Statement.{statement}
 use Rattle.text.proofs.character.Tie as tie
 
