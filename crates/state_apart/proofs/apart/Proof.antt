@@ -1,19 +1,10 @@
-<<<<<<<< HEAD:crates/state_held/proofs/apart/Proof.antt
--- `state_held::apart` meets its contract: a state is what its parts make. Assumes nothing.
-========
 -- `state_apart::apart` meets its contract: a state is what its parts make. Assumes nothing.
->>>>>>>> gate-a:crates/state_apart/proofs/apart/Proof.antt
 use borrow.Author.Needs.{needs}
 use mathlib.Core.Path.{_≡_, sym, ap}
 use Rattle.paper.specs.declared.Hold.{Hold}
 use Rattle.paper.specs.declared.State.{State}
-<<<<<<<< HEAD:crates/state_held/proofs/apart/Proof.antt
-use Rattle.state_held.proofs.apart.Statement.{statement}
-use Rattle.state_held.proofs.apart.Tie as tie
-========
 use Rattle.state_apart.proofs.apart.Statement.{statement}
 use Rattle.state_apart.proofs.apart.Tie as tie
->>>>>>>> gate-a:crates/state_apart/proofs/apart/Proof.antt
 
 abbrev withHold : State → Hold → State
 withHold s h = record { settings = s .settings; windows = s .windows; base = s .base; selected = s .selected; hold = h; half = s .half; spans = s .spans }
