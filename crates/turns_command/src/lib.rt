@@ -6,7 +6,7 @@ use paper::Module;
 use turns_light::Turn;
 ghost use mathlib.Core.Path.{_≡_};
 ghost use mathlib.Core.Bool.{false};
-ghost use Rattle.turns_light.specs.Halves.{isImage};
+ghost use Rattle.turns_half.specs.Halves.{isImage};
 ghost use Rattle.turns_light.specs.Turns.{lightAt, Due, Turned};
 
 // The bytes of a command that is not light: carried out, and counted.

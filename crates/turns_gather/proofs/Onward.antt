@@ -2,14 +2,11 @@
 -- half read before them. Assumes nothing.
 use mathlib.Core.Path.{_≡_, refl, sym, _∙_}
 use mathlib.Core.Bool.{Bool, true, false, cond, not, _&&_, _||_, true≢false, false≢true}
-use mathlib.Core.List.{List, [], _∷_}
+use mathlib.Core.List.{List}
 use Prim.Native.Nat.{ℕ}
 use lib.ListN.{getD}
 use lib.Dec.{leb, ltb, eqb}
 use borrow.Author.Tests.{not-true}
-use types.Run.{OneOf}
-use denote.Enum.Declared.{tagOf}
-use Rattle.paper.proofs.Half.{the-type}
 use Rattle.paper.specs.declared.Module.{Module}
 use Rattle.paper.specs.declared.Word.{Word}
 use Rattle.paper.specs.declared.Word.the-variants.{CursorX, CursorY, WindowLeft, WindowTop, WindowWidth, WindowHeight, ImageWidth, ImageHeight}
@@ -22,9 +19,8 @@ use Rattle.paper.specs.Reading.{between, withColumn, readColumn, readMove, read
 use Rattle.laws_bytes.proofs.Tests.{both-of}
 use Rattle.strides.specs.Strides.{isStyling, isLight}
 use Rattle.carry_command.specs.Heavy.{isCell, heavy}
-use Rattle.turns_light.specs.Halves.{isNothing, isImage}
+use Rattle.turns_half.specs.Halves.{isNothing, isImage}
 use Rattle.turns_light.specs.Turns.{lightStart}
-use Rattle.turns_light.proofs.Halves.{missed}
 
 -- ---- one reading
 
@@ -209,15 +205,6 @@ text-light piece i e = go (leb 0x20 (getD piece i 0)) (between 0x08 0x0D (getD p
   go true c e = refl
   go false true e = refl
   go false false e = absurd (false≢true e)
-
--- the tags of all that is no image's data
-abbrev pub others : List ℕ
-others = 0 ∷ 1 ∷ 2 ∷ 3 ∷ 4 ∷ 5 ∷ 6 ∷ 7 ∷ 8 ∷ 9 ∷ 10 ∷ 11 ∷ 12 ∷ 13 ∷ 14 ∷ 15 ∷ 16 ∷ 17 ∷ 19 ∷ 20 ∷ 21 ∷ 22 ∷ 23 ∷ 24 ∷ 25 ∷ []
-
--- what the `_` arm of a match that asks for an image's data learns
-pub no-image : (p : Half) → OneOf others (tagOf the-type p) → isImage p ≡ false
-unfolding isImage
-no-image p h = missed 18 others (tagOf the-type p) refl h
 
 -- what is half read while a command's bytes come: no image's data, and nothing only before its first byte
 pub record Onward (half : Half) (piece : List ℕ) (from : ℕ) (h : Half) (i : ℕ) : Type 0 where

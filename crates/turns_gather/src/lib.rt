@@ -1,5 +1,5 @@
 // The bytes of a command read together.
-// It may use reading for what a byte completes. It knows no state.
+// It may use reading for what a byte completes, turns_half for where an image's data begins. It knows no state.
 // Its contract says that what they are read as is what they are read as one by one, and that it is nothing that a light turn or an
 // image's takes.
 use paper::Half;
@@ -11,18 +11,8 @@ ghost use Prim.Native.Nat.{_<_, _≤_};
 ghost use lib.ListN.{length, drop};
 ghost use Rattle.paper.specs.Bounds.{halfOk};
 ghost use Rattle.carry_command.specs.Heavy.{heavy};
-ghost use Rattle.turns_light.specs.Halves.{isImage};
+ghost use Rattle.turns_half.specs.Halves.{isImage};
 ghost use Rattle.turns_light.specs.Turns.{lightStart, Gathers};
-
-// Whether an image's data is half read.
-fn is_image(half: Half) -> bool
-    ensures { λ r. ⌜ r ≡ isImage half ⌝ }
-{
-    match half {
-        Half::ImageData { .. } => true,
-        _ => false,
-    }
-}
 
 // What the bytes of a command came to: what the last of them gave, and the place after it.
 pub struct Gathered {
@@ -45,7 +35,7 @@ pub fn gather(g: Module, half: Half, piece: &[u8], from: usize) -> Gathered
         i += 1;
         match r {
             Reading::More(next) => {
-                if is_image(next) {
+                if turns_half::is_image(next) {
                     return Gathered { reading: r, at: i };
                 }
                 h = next;

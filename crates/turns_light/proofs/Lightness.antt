@@ -16,9 +16,9 @@ use Rattle.glyphs.specs.Cell.{cellOf}
 use Rattle.moves.specs.declared.Spot.{Spot}
 use Rattle.moves.specs.Does.{spot}
 use Rattle.strides.specs.Strides.{isLight}
-use Rattle.turns_light.specs.Halves.{isNothing}
+use Rattle.turns_half.specs.Halves.{isNothing}
 use Rattle.turns_light.specs.Turns.{Light, lightStart, lightAt}
-use Rattle.turns_light.proofs.Halves.{nothing-is}
+use Rattle.turns_half.proofs.Halves.{nothing-is}
 
 -- whether the cell exceeds the range, by what the calls gave
 pub spot-tested : (g : Module) (s : State) (p : Spot) (c : Cell) (t u : Bool) → p ≡ spot (viewOf g s) (s .spans)

@@ -18,7 +18,7 @@ use Rattle.laws_state.specs.Runs.{Reaches}
 use Rattle.laws_state.specs.Told.{fed}
 use Rattle.strides.specs.Strides.{isLight}
 use Rattle.carry_dots.specs.Does.{Ready}
-use Rattle.turns_light.specs.Halves.{isNothing}
+use Rattle.turns_half.specs.Halves.{isNothing}
 use Rattle.turns_light.specs.declared.Turn.{Turn}
 
 -- a byte with which a stretch that needs no state begins, while nothing is half read and a cell has room

@@ -8,7 +8,7 @@ use paper::State;
 ghost use mathlib.Core.Path.{_≡_};
 ghost use Prim.Native.Nat.{_<_, _≤_};
 ghost use lib.ListN.{length};
-ghost use Rattle.turns_light.specs.Halves.{isNothing};
+ghost use Rattle.turns_half.specs.Halves.{isNothing};
 ghost use Rattle.turns_light.specs.Turns.{lightAt};
 
 // A turn of the loop over a piece: what has been fed, and the place of the next byte.

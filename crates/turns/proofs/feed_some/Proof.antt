@@ -4,7 +4,7 @@ use native.Mathlib.Omega.{arith}
 use mathlib.Core.Path.{sym, _∙_}
 use Rattle.carry_state.proofs.Facts.{selected-small}
 use Rattle.turns_light.proofs.Lightness.{light-is}
-use Rattle.turns_gather.proofs.Onward.{no-image}
+use Rattle.turns_half.proofs.Halves.{no-image}
 use Rattle.turns.proofs.feed_some.Statement.{statement}
 use Rattle.turns.proofs.feed_some.Tie as tie
 

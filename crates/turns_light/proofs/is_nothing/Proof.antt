@@ -1,8 +1,8 @@
 -- `turns_light::is_nothing` meets its contract. Assumes nothing.
 use mathlib.Core.List.{[], _∷_}
 use mathlib.Core.Path.{refl, sym}
-use Rattle.turns_light.specs.Halves.{isNothing}
-use Rattle.turns_light.proofs.Halves.{missed}
+use Rattle.turns_half.specs.Halves.{isNothing}
+use Rattle.turns_half.proofs.Halves.{missed}
 use Rattle.turns_light.proofs.is_nothing.Statement.{statement}
 use Rattle.turns_light.proofs.is_nothing.Tie as tie
 

@@ -7,11 +7,13 @@ use mathlib.Core.Path.{_≡_, refl, ap, _∙_}
 use lib.Dec.{eqb}
 use borrow.Author.Tests.{not-true}
 use types.Run.{OneOf}
+use denote.Enum.Declared.{tagOf}
+use Rattle.paper.proofs.Half.{the-type}
 use Rattle.paper.specs.declared.Half.{Half}
 use Rattle.paper.specs.declared.Half.the-variants.{Nothing, Escape, Unit, Group, Actions, Images, Characters, Windows, Value, Rest, DownloadA, DownloadFrom, DownloadTo}
 use Rattle.paper.specs.declared.Half.the-variants.{GlyphWidth, GlyphByte, Low, High, ImageKind, ImageData, EnlargeX, EnlargeY, SelectA, WindowA, WindowB, EraseA, EraseCode}
 use Rattle.laws_bytes.proofs.Tests.{both-of}
-use Rattle.turns_light.specs.Halves.{isNothing}
+use Rattle.turns_half.specs.Halves.{isNothing, isImage}
 
 -- a tag is not among some
 abbrev pub lacks : ℕ → List ℕ → Bool
@@ -27,6 +29,15 @@ one-of k n (m ∷ ns) x t (inr h) = one-of k m ns x (both-of (not (eqb n k)) (la
 pub missed : (k : ℕ) (ns : List ℕ) (x : ℕ) → lacks k ns ≡ true → OneOf ns x → eqb x k ≡ false
 missed k [] x t h = absurd h
 missed k (n ∷ ns) x t h = one-of k n ns x t h
+
+-- the tags of all that is no image's data
+abbrev pub others : List ℕ
+others = 0 ∷ 1 ∷ 2 ∷ 3 ∷ 4 ∷ 5 ∷ 6 ∷ 7 ∷ 8 ∷ 9 ∷ 10 ∷ 11 ∷ 12 ∷ 13 ∷ 14 ∷ 15 ∷ 16 ∷ 17 ∷ 19 ∷ 20 ∷ 21 ∷ 22 ∷ 23 ∷ 24 ∷ 25 ∷ []
+
+-- what the `_` arm of a match that asks for an image's data learns
+pub no-image : (p : Half) → OneOf others (tagOf the-type p) → isImage p ≡ false
+unfolding isImage
+no-image p h = missed 18 others (tagOf the-type p) refl h
 
 -- there is one way in which nothing is half read
 pub nothing-is : (h : Half) → isNothing h ≡ true → h ≡ Nothing
