@@ -1,5 +1,5 @@
 // Feed, for any usable module: what is refused, in its order.
-// It may use modules for the lengths, accept for the state's test, and turns_piece for the loop over a piece.
+// It may use modules for the lengths, accept for the state's test, and turns for the loop over a piece.
 use paper::Fed;
 use paper::Module;
 use paper::Refusal;
@@ -16,13 +16,13 @@ pub fn feed(g: Module, mem: &mut [u8], store: &mut [u8], font: &[u8], piece: &[u
         ≡ feedCall g (now (font .entry)) s (now (store .entry)) (now (mem .entry)) (now (piece .entry)) ⌝ }
 {
     if mem.len() != modules::memory_length(g) {
-        return turns_piece::fed_nothing(Refusal::MemoryLength, s);
+        return turns::fed_nothing(Refusal::MemoryLength, s);
     }
     if font.len() != modules::font_length(g) {
-        return turns_piece::fed_nothing(Refusal::FontLength, s);
+        return turns::fed_nothing(Refusal::FontLength, s);
     }
     if accept::is_accepted(g, s, store) {
-        return turns_piece::feed_all(g, mem, store, font, piece, s);
+        return turns::feed_all(g, mem, store, font, piece, s);
     }
-    turns_piece::fed_nothing(Refusal::BrokenState, s)
+    turns::fed_nothing(Refusal::BrokenState, s)
 }

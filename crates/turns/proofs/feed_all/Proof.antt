@@ -1,4 +1,4 @@
--- `turns_piece::feed_all` meets its contract. The loop's invariant: from the whole piece it has come, byte by byte, to what is left of it.
+-- `turns::feed_all` meets its contract. The loop's invariant: from the whole piece it has come, byte by byte, to what is left of it.
 -- Assumes nothing.
 use borrow.Author.Needs.{needs}
 use mathlib.Core.Path.{_≡_, refl, sym, ap, _∙_}
@@ -14,8 +14,8 @@ use Rattle.paper.specs.Calls.{run, fedNothing}
 use Rattle.laws_state.specs.Runs.{Reaches, here}
 use Rattle.laws_state.proofs.Reached.{reaches-on, reaches-run, reaches-state, reaches-length, reaches-counts}
 use Rattle.laws_state.specs.Told.{fed}
-use Rattle.turns_piece.proofs.feed_all.Statement.{statement}
-use Rattle.turns_piece.proofs.feed_all.Tie as tie
+use Rattle.turns.proofs.feed_all.Statement.{statement}
+use Rattle.turns.proofs.feed_all.Tie as tie
 
 abbrev Inv-loop : tie.InvT-loop
 Inv-loop g mem₀ store₀ font piece f₀ i₀ mem store f i =
