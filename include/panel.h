@@ -11,7 +11,7 @@
  * docs/MANUAL.md the commands. They are document 01's with document 02's orders 1
  * (LF in MD1 without room below goes to the range's top left) and 2 (downloads).
  *
- * Stack, on x86-64: a feed needs some 3,000 bytes, every other call below 1,000
+ * Stack, on x86-64: a feed needs some 2,100 bytes, every other call below 1,000
  * (docs/MEASURED.md).
  */
 #ifndef PANEL_H
