@@ -281,13 +281,24 @@ static void put_mixed(void)
         PUT("\x1F$\x05\0\x01\0" "A\x0A\x1Fr\x01" "12\x1Fr\0\x1Fw\x01 x\x1Fw\0\x1F(w\x02\x01\x01\x0A\0\0\0\x0E\0\x01\0\x11 3\x0D\x08\x10\x0C");
 }
 
-static void put_digits(void)
+/* Digits enlarged across and down, replaced or mixed by exclusive or. */
+static void put_digits(char across, char down, char mixing)
 {
+    const char settings[] = {0x1F, '(', 'g', '@', across, down, 0x1F, 'w', mixing};
     length = 0;
-    PUT("\x1F(g@\x04\x02");
+    put(settings, sizeof settings);
     while (length < 600)
         PUT("\x0B" "1234");
 }
+
+static void put_digits_2_1(void) { put_digits(2, 1, 0); }
+static void put_digits_2_2(void) { put_digits(2, 2, 0); }
+static void put_digits_4_1(void) { put_digits(4, 1, 0); }
+static void put_digits_4_2(void) { put_digits(4, 2, 0); }
+static void put_xored_2_1(void) { put_digits(2, 1, 3); }
+static void put_xored_2_2(void) { put_digits(2, 2, 3); }
+static void put_xored_4_1(void) { put_digits(4, 1, 3); }
+static void put_xored_4_2(void) { put_digits(4, 2, 3); }
 
 static void put_images(void)
 {
@@ -347,7 +358,14 @@ static const struct row {
     {"text, MD1", put_text, feed_whole},
     {"text, MD2", put_lines, feed_whole},
     {"mixed commands", put_mixed, feed_whole},
-    {"enlarged digits", put_digits, feed_whole},
+    {"digits 2 by 1", put_digits_2_1, feed_whole},
+    {"digits 2 by 2", put_digits_2_2, feed_whole},
+    {"digits 4 by 1", put_digits_4_1, feed_whole},
+    {"digits 4 by 2", put_digits_4_2, feed_whole},
+    {"digits 2 by 1, exclusive or", put_xored_2_1, feed_whole},
+    {"digits 2 by 2, exclusive or", put_xored_2_2, feed_whole},
+    {"digits 4 by 1, exclusive or", put_xored_4_1, feed_whole},
+    {"digits 4 by 2, exclusive or", put_xored_4_2, feed_whole},
     {"images", put_images, feed_whole},
     {"scrolling, MD2 line feeds", put_line_feeds, feed_whole},
     {"scrolling, MD3", put_pushed, feed_whole},

@@ -1,4 +1,4 @@
--- Laws that belong to no one function: of columns mixed into memory, and of cells walked over or stamped.
+-- Laws that belong to no one function: of columns mixed into memory, and of cells enlarged or stamped.
 pub mod Columns
-mod Walks
+mod Enlarged
 pub mod Stamps

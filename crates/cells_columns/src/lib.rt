@@ -1,8 +1,7 @@
-// The columns of cells, mixed into memory: a byte, a column, the columns of a cell that is not enlarged, and of any.
-// It may use the paper, its laws, the dots and the columns of glyphs. It knows neither cursors and windows nor where a glyph's columns come
-// from, and it is told whether a glyph is framed.
+// Cells in memory, column by column: a byte, a column, a cell that is not enlarged, and any.
+// It may use the paper, its laws, the dots, the columns of glyphs and enlarged cells. It knows neither cursors and windows nor where a glyph's
+// columns come from, and it is told whether a glyph is framed.
 use glyphs_columns::Tall;
-use glyphs_columns::Walk;
 use paper::Module;
 use paper::Rect;
 use paper::Style;
@@ -107,21 +106,34 @@ pub fn stamp(g: Module, mem: &mut [u8], cols: &[u8], w: u8, style: Style, left: 
     );
 }
 
-// A cell column by column, each repeated across and down.
+// Any cell, or the part of it that lies in a rectangle. Columns twice as wide and replaced stand here, so that a loop over characters has
+// them in it and knows how many they are. All others are called from two places, which keeps them out of that loop.
 pub fn walk_over(g: Module, mem: &mut [u8], framed: bool, cols: &[u8], w: u8, style: Style, r: Rect)
     requires { ⌜ Within g r × Fits g (now mem) ⌝ }
     requires { ⌜ (1 ≤ style .across) × (style .down ≤ 2) × (r .height ≤ style .down) ⌝ }
     ensures { λ _. ⌜ now (mem .exit) ≡ drawnAs g framed (now (cols .entry)) w style r (now (mem .entry)) ⌝ }
 {
-    let top = r.top;
-    let mut walk = Walk {
-        column: glyphs_columns::column(framed, cols, w, style, top, 0),
-        index: 0,
-        times: 0,
-    };
-    for j in 0..r.width {
-        walk = glyphs_columns::next(framed, cols, w, style, top, walk);
-        let t = walk.column;
-        mix_column(g, mem, style, r.left + j, top, r.height, t);
+    let width = r.width;
+    let height = r.height;
+    if width == 0 {
+        return;
     }
+    if height == 0 {
+        return;
+    }
+    let top = r.top;
+    let blanks = glyphs_columns::blanks_left(framed, w);
+    let lift = glyphs_columns::placing(framed, top);
+    let a = dots::at(g, r.left, top);
+    let s = g.rows;
+    let twice = (style.mixing == 0) & (style.across == 2) & (style.down == 1);
+    if twice & cells_cut::is_whole(cols.len(), blanks, lift, style, width, height) {
+        cells_rows::row(mem, cols, blanks, lift, style, 1, 0, a, s, 2, 0);
+        return;
+    }
+    if height == 1 {
+        cells_wide::draw(mem, cols, blanks, lift, style, a, s, width, 1);
+        return;
+    }
+    cells_wide::draw(mem, cols, blanks, lift, style, a, s, width, height);
 }

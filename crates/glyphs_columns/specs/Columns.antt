@@ -1,34 +1,34 @@
 -- The columns of a cell in bytes, and how many stand beside a glyph. Assumes nothing.
 use mathlib.Core.Bool.{Bool, cond}
 use mathlib.Core.List.{List}
-use Prim.Native.Nat.{ℕ, _+_}
+use Prim.Native.Nat.{ℕ, _+_, _-_, _*_, _/_, _^_}
 use lib.Dec.{eqb}
+use lib.ListN.{length, getD}
+use lib.Bits.{bitAnd, bitOr, bitXor}
 use Rattle.paper.specs.declared.Module.{Module}
 use Rattle.paper.specs.declared.Style.{Style}
+use Rattle.paper.specs.Strokes.{among}
 use Rattle.paper.specs.Cells.{blanksLeft}
 use Rattle.laws_bytes.specs.Bytes.{placedByte, glyphColumn, tallByte, reversedByte}
 use Rattle.glyphs_columns.specs.declared.Lift.{Lift}
 use Rattle.glyphs_columns.specs.declared.Tall.{Tall}
-use Rattle.glyphs_columns.specs.declared.Walk.{Walk}
 
--- a column repeated downwards
-abbrev pub tallOf : ℕ → ℕ → Tall
-tallOf down v = record { upper = tallByte down 0 v; lower = tallByte down 1 v }
+-- column k of a cell: after the blank columns the glyph's, then blank
+abbrev pub fetchedOf : List ℕ → ℕ → ℕ → ℕ
+fetchedOf cols blanks k = cond (among blanks (length cols) k) (getD cols (k - blanks) 0) 0
 
--- both rows of a column, reversed if the style says so
-abbrev pub inkOf : Style → Tall → Tall
-inkOf y t = record { upper = reversedByte y (t .upper); lower = reversedByte y (t .lower) }
+-- a glyph's column placed: so many dots down, and up again
+abbrev pub liftedOf : Lift → ℕ → ℕ
+liftedOf p v = v / 2 ^ (p .down) * 2 ^ (p .up)
 
--- column k of a glyph's cell before it is repeated across, the cursor on a row of memory
-unfoldable pub inkColumn : Bool → List ℕ → ℕ → Style → ℕ → ℕ → Tall
-inkColumn framed cols w y row k = inkOf y (tallOf (y .down) (placedByte framed row (glyphColumn framed cols w k)))
+-- row r of column k of a cell: fetched, placed, repeated downwards and reversed
+abbrev pub rowByte : List ℕ → ℕ → Lift → Style → ℕ → ℕ → ℕ → ℕ
+rowByte cols blanks p y down r k = reversedByte y (tallByte down r (liftedOf p (fetchedOf cols blanks k)))
 
--- a walk one column on: the column at hand once more, or the next after it was drawn as often as it is repeated
-unfoldable pub nextOf : Bool → List ℕ → ℕ → Style → ℕ → Walk → Walk
-nextOf framed cols w y row s =
-    cond (eqb (s .times) (y .across))
-    (record { column = inkColumn framed cols w y row (s .index + 1); index = s .index + 1; times = 1 })
-    (record { column = s .column; index = s .index; times = s .times + 1 })
+-- mixing by its number: replace, or, and, exclusive or
+abbrev pub mixedBy : ℕ → ℕ → ℕ → ℕ
+mixedBy mixing v old =
+    cond (eqb mixing 0) v (cond (eqb mixing 1) (bitOr old v) (cond (eqb mixing 2) (bitAnd old v) (bitXor old v)))
 
 -- the byte of a column on one of its rows
 abbrev pub atRow : Tall → ℕ → ℕ

@@ -1,24 +1,17 @@
 // The columns of a glyph's cell in bytes, and what reverse and mixing make of a byte.
 // It may use the paper and the laws of bytes. It reads the glyph's columns that it is lent and writes nothing.
-// A column is fetched, placed, stretched and reversed once.
+// A row of a column is fetched, placed, stretched and reversed.
 use paper::Style;
 ghost use mathlib.Core.Path.{_≡_};
-ghost use Prim.Native.Nat.{_+_, _*_, _/_, _^_, _≤_, _<_};
+ghost use Prim.Native.Nat.{_*_, _/_, _^_, _≤_, _<_};
 ghost use Rattle.paper.specs.Cells.{blanksLeft};
-ghost use Rattle.laws_bytes.specs.Bytes.{double, glyphColumn, reversedByte, mixedByte};
-ghost use Rattle.glyphs_columns.specs.Columns.{tallOf, inkColumn, nextOf, blankRight, framedOn, placingOf};
+ghost use Rattle.laws_bytes.specs.Bytes.{double, tallByte, reversedByte, mixedByte};
+ghost use Rattle.glyphs_columns.specs.Columns.{fetchedOf, mixedBy, blankRight, framedOn, placingOf};
 
 // A column of a cell repeated downwards: the bytes of its two rows. A cell one row high has the first alone.
 pub struct Tall {
     pub upper: u8,
     pub lower: u8,
-}
-
-// A walk over a cell's columns: the glyph's column at hand, its number, and how many times it was drawn.
-pub struct Walk {
-    pub column: Tall,
-    pub index: usize,
-    pub times: u8,
 }
 
 // How many blank columns stand on the left of a glyph.
@@ -35,11 +28,10 @@ pub fn blank_right(framed: bool) -> usize
     if framed { 1 } else { 0 }
 }
 
-// Column k of a glyph's cell: the glyph's after the blank ones on its left, then blank.
-fn glyph_column(framed: bool, cols: &[u8], w: u8, k: usize) -> u8
-    ensures { λ b. ⌜ b ≡ glyphColumn framed (now (cols .entry)) w k ⌝ }
+// Column k of a cell: after the blank columns the glyph's, then blank.
+pub fn fetched(cols: &[u8], blanks: usize, k: usize) -> u8
+    ensures { λ b. ⌜ b ≡ fetchedOf (now (cols .entry)) blanks k ⌝ }
 {
-    let blanks = blanks_left(framed, w);
     if k < blanks {
         return 0;
     }
@@ -84,25 +76,27 @@ pub fn placed(p: Lift, v: u8) -> u8
     (v >> p.down) << p.up
 }
 
-// A byte of four dots, each twice.
+// A byte of four dots, each twice: the dots moved apart, then each put beside itself.
 fn doubled(n: u8) -> u8
     requires { ⌜ n < 16 ⌝ }
     ensures { λ b. ⌜ b ≡ double n ⌝ }
 {
-    (n % 2 + 4 * (n / 2 % 2) + 16 * (n / 4 % 2) + 64 * (n / 8 % 2)) * 3
+    let pairs = (n | (n << 2)) & 0x33;
+    let dots = (pairs | (pairs << 1)) & 0x55;
+    dots | (dots << 1)
 }
 
-// A column with each dot repeated downwards: itself, or its upper half above its lower half.
-fn stretched(v: u8, down: u8) -> Tall
-    ensures { λ t. ⌜ t ≡ tallOf down v ⌝ }
+// Row r of a column repeated downwards: itself, or its upper half's dots or its lower half's, each twice.
+pub fn tall_byte(down: u8, r: u8, v: u8) -> u8
+    ensures { λ b. ⌜ b ≡ tallByte down r v ⌝ }
 {
     if down == 1 {
-        return Tall { upper: v, lower: v };
+        return v;
     }
-    Tall {
-        upper: doubled(v / 16),
-        lower: doubled(v % 16),
+    if r == 0 {
+        return doubled(v / 16);
     }
+    doubled(v % 16)
 }
 
 // A byte with all its dots inverted, if the style says so.
@@ -112,11 +106,10 @@ pub fn reversed(style: Style, v: u8) -> u8
     if style.reverse == 1 { 255 - v } else { v }
 }
 
-// A byte joined with the one that stands in memory.
-pub fn mixed(style: Style, v: u8, old: u8) -> u8
-    ensures { λ b. ⌜ b ≡ mixedByte style v old ⌝ }
+// A byte joined with the one that stands in memory, by the number of the mixing.
+pub fn mixed_by(mixing: u8, v: u8, old: u8) -> u8
+    ensures { λ b. ⌜ b ≡ mixedBy mixing v old ⌝ }
 {
-    let mixing = style.mixing;
     if mixing == 0 {
         return v;
     }
@@ -129,34 +122,9 @@ pub fn mixed(style: Style, v: u8, old: u8) -> u8
     old ^ v
 }
 
-// Column k of a glyph's cell, the cursor on a row of memory: fetched, placed, stretched and reversed.
-pub fn column(framed: bool, cols: &[u8], w: u8, style: Style, row: usize, k: usize) -> Tall
-    ensures { λ t. ⌜ t ≡ inkColumn framed (now (cols .entry)) w style row k ⌝ }
+// And by the style's.
+pub fn mixed(style: Style, v: u8, old: u8) -> u8
+    ensures { λ b. ⌜ b ≡ mixedByte style v old ⌝ }
 {
-    let v = placed(placing(framed, row), glyph_column(framed, cols, w, k));
-    let t = stretched(v, style.down);
-    Tall {
-        upper: reversed(style, t.upper),
-        lower: reversed(style, t.lower),
-    }
-}
-
-// One column on: the column at hand once more, or the next after it was drawn as often as it is repeated.
-pub fn next(framed: bool, cols: &[u8], w: u8, style: Style, row: usize, walk: Walk) -> Walk
-    requires { ⌜ (walk .times ≤ style .across) × (walk .index + 1 < 2 ^ 64) ⌝ }
-    ensures { λ r. ⌜ r ≡ nextOf framed (now (cols .entry)) w style row walk ⌝ }
-{
-    let times = walk.times;
-    if times == style.across {
-        let k = walk.index + 1;
-        return Walk {
-            column: column(framed, cols, w, style, row, k),
-            index: k,
-            times: 1,
-        };
-    }
-    Walk {
-        times: times + 1,
-        ..walk
-    }
+    mixed_by(style.mixing, v, old)
 }

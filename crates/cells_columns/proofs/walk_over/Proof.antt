@@ -1,72 +1,126 @@
--- `cells_columns::walk_over` meets its contract. The loop's invariant: the first j columns are mixed in, and the walk is at column j.
--- Assumes nothing.
-use mathlib.Core.Path.{_≡_, refl}
-use Prim.Native.Nat.{_≤_, _-_}
-use borrow.Author.Needs.{needs}
+-- `cells_columns::walk_over` meets its contract, by its tests. Assumes nothing.
+use mathlib.Core.Path.{_≡_, refl, sym, ap, _∙_}
+use Prim.Native.Nat.{_+_, _*_, _≤_}
 use native.Mathlib.Omega.{arith}
+use borrow.Author.Needs.{needs}
 use lib.ListN.{length}
-use Rattle.paper.specs.Strokes.{rectAt, rectMap}
-use Rattle.paper.specs.Cells.{cellDot}
-use Rattle.laws_bytes.specs.Bytes.{cellByte}
-use Rattle.laws_bytes.proofs.Drawn.{cell-byte}
-use Rattle.laws_memory.proofs.Rects.{rect-none}
-use Rattle.cells_columns.specs.DrawnAs.{drawnAs}
-use Rattle.cells_columns.proofs.Columns.{inked, cell-turn, cell-end}
-use Rattle.cells_columns.proofs.Walks.{Walked, walked-next, walked-row}
+use Rattle.paper.specs.Panel.{memoryLength}
+use Rattle.cells_cut.proofs.Whole.{whole-facts}
+use Rattle.cells_rows.specs.Laid.{piled, cellStroke, wholeOf}
+use Rattle.cells_wide.proofs.Styles.{alike, one-row}
+use Rattle.cells_columns.proofs.Enlarged.{placed-at, twice-facts, rows-small, width-small, reaches, no-column, no-row, drawn-rows}
 use Rattle.cells_columns.proofs.walk_over.Statement.{statement}
 use Rattle.cells_columns.proofs.walk_over.Tie as tie
 
-abbrev Inv-loop : tie.InvT-loop
-Inv-loop g mem₀ framed cols w style r top walk₀ j₀ width mem walk j =
-    (j ≤ width) × (length mem ≡ length mem₀) × Walked framed cols w style top j walk
-    × (mem ≡ rectMap g (rectAt (r .left) top j (r .height)) (inked style (cellByte framed cols w style top)) mem₀)
+returns : tie.Need-returns
+returns c = no-column _ _ _ _ _ _ _ (omega arith)
 
-abbrev μ-loop : tie.MeasureT-loop
-μ-loop g mem₀ framed cols w style r top walk₀ j₀ width mem walk j = width - j
+returns-2 : tie.Need-returns-2
+returns-2 c = no-row _ _ _ _ _ _ _ (omega arith)
 
-loop-holds : tie.Need-loop-holds Inv-loop μ-loop
-loop-holds c = (
-  omega arith,
-  refl,
-  record { at-hand = c .column .ensures; counted = omega arith; short = omega arith; few = omega arith },
-  rect-none _ _ _ _ (λ a i. omega arith),
-)
+is-whole-requires : tie.Need-is-whole-requires
+is-whole-requires c κs =
+    let start = c .before .before .before .before .before .before .before .before .before .before in
+    let a = start .args in
+    let wide : 1 ≤ a .r .width = omega (arith, c .before .before .before .before .before .before .before .if1 .left) in
+    let high : 1 ≤ a .r .height = omega (arith, c .before .before .before .before .before .before .if2 .left) in
+    let small : memoryLength (a .g) ≤ 65536 = start .pre .0 .1 .small in
+    (omega arith, omega (arith, c .before .before .before .before .placing .ensures .1), omega (arith, c .before .before .before .before .before .blanks-left .ensures .1), width-small (a .g) (a .r) (start .pre .0 .0) small wide high)
 
-loop-again : tie.Need-loop-again Inv-loop μ-loop
-loop-again c =
-    let head = c .before .before .before .before .before .before .before .before .loop in
-    let start = c .before .before .before .before .before .before .before .before .before .before .before .before in
-    let walked =
-    walked-next _ _ _ _ _ _ _ _ (start .pre .1 .0) (head .inv .2) (c .before .before .before .before .before .before .next .ensures) in (
-      omega arith,
-      omega (arith, c .before .before .mix-column .kept .1 .0),
-      walked .0,
-      cell-turn _ _ _ _ _ _ _ _ _ _ _ (head .inv .3) (λ r h. walked-row _ _ _ _ _ _ _ (walked .0) (walked .1) r (omega (arith, h, start .pre)))
-          (c .before .before .mix-column .ensures),
+row-requires : tie.Need-row-requires
+row-requires c κs =
+    let start = c .before .before .before .before .before .before .before .before .before .before .before .before .before in
+    let a = start .args in
+    let wide : 1 ≤ a .r .width = omega (arith, c .before .before .before .before .before .before .before .before .before .before .if1 .left) in
+    let high : 1 ≤ a .r .height = omega (arith, c .before .before .before .before .before .before .before .before .before .if2 .left) in
+    let small : memoryLength (a .g) ≤ 65536 = start .pre .0 .1 .small in
+    let p = c .before .before .before .before .before .before .before .placing .ensures in
+    let twice = twice-facts (a .style) _ (c .before .if3 .taken) in
+    let whole =
+    whole-facts (length (a .cols .now)) (c .before .before .before .before .before .before .before .before .blanks-left .result) (c .before .before .before .before .before .before .before .placing .result) (a .style) (a .r .width) (a .r .height)
+    (sym (c .before .before .is-whole .ensures) ∙ twice .3) in
+    let columns : a .r .width ≡ wholeOf (a .cols .now) (c .before .before .before .before .before .before .before .before .blanks-left .result) (c .before .before .before .before .before .before .before .placing .result) * 2 = rw (← twice .1) (whole .2) in
+    let reach = rw columns at (reaches (a .g) (a .r) (start .pre .0 .0) small wide high) in
+    ((p .1, p .2, omega arith, omega arith, rows-small (a .g) (a .r) (start .pre .0 .0) small wide high, omega arith), omega (arith, reach, c .before .before .before .before .before .before .at .ensures .0))
+
+returns-3 : tie.Need-returns-3
+returns-3 c =
+    let start = c .before .before .before .before .before .before .before .before .before .before .before .before .before .before .before .before in
+    let a = start .args in
+    let twice = twice-facts (a .style) _ (c .before .before .before .before .if3 .taken) in
+    let whole =
+    whole-facts (length (a .cols .now)) (c .before .before .before .before .before .before .before .before .before .before .before .blanks-left .result) (c .before .before .before .before .before .before .before .before .before .before .placing .result) (a .style) (a .r .width) (a .r .height)
+    (sym (c .before .before .before .before .before .is-whole .ensures) ∙ twice .3) in
+    drawn-rows (a .g) (a .framed) (a .cols .now) (a .w) (a .style) (a .r) (a .mem .now) (c .before .before .before .before .before .before .before .before .before .before .before .blanks-left .result) (c .before .before .before .before .before .before .before .before .before .before .placing .result) _ (c .before .before .before .before .before .before .before .before .before .before .before .blanks-left .ensures .0) (c .before .before .before .before .before .before .before .before .before .before .placing .ensures .0)
+    (λ n. c .before .before .before .before .before .before .before .before .before .before .before .before .before .before .before .slice-known .given n .fits) (λ n. c .before .before .before .before .before .before .before .before .before .before .before .before .before .before .shared-slice-known .given n .fits) (omega arith) (omega arith) (start .pre .0 .0 .down)
+    (start .pre .0 .0 .across) (start .pre .0 .1 .size)
+    (placed-at (cellStroke (a .cols .now) (c .before .before .before .before .before .before .before .before .before .before .before .blanks-left .result) (c .before .before .before .before .before .before .before .before .before .before .placing .result) (a .style)) (a .g .rows) (c .before .before .before .before .before .before .before .before .before .at .result) _ _ (a .r .width) 1 (a .r .height) (a .mem .now) _ (c .before .before .before .before .before .before .before .before .before .at .ensures .0) (sym (whole .2)) (omega (arith, whole .1, twice .2))
+    (one-row (a .cols .now) (c .before .before .before .before .before .before .before .before .before .before .before .blanks-left .result) (c .before .before .before .before .before .before .before .before .before .before .placing .result) (a .style) 1 2 0
+    (wholeOf (a .cols .now) (c .before .before .before .before .before .before .before .before .before .before .before .blanks-left .result) (c .before .before .before .before .before .before .before .before .before .before .placing .result)) (a .g .rows) (c .before .before .before .before .before .before .before .before .before .at .result) (twice .2) (twice .1)
+    (alike 0 (a .style .mixing) (twice .0)) (a .mem .now) _ (c .before .before .row .ensures)))
+
+draw-requires : tie.Need-draw-requires
+draw-requires c κs =
+    let start = c .before .before .before .before .before .before .before .before .before .before .before .before .before .before in
+    let a = start .args in
+    let wide : 1 ≤ a .r .width = omega (arith, c .before .before .before .before .before .before .before .before .before .before .before .if1 .left) in
+    let high : 1 ≤ a .r .height = omega (arith, c .before .before .before .before .before .before .before .before .before .before .if2 .left) in
+    let small : memoryLength (a .g) ≤ 65536 = start .pre .0 .1 .small in
+    let p = c .before .before .before .before .before .before .before .before .placing .ensures in
+    let reach = reaches (a .g) (a .r) (start .pre .0 .0) small wide high in (
+      (p .1, p .2, omega arith, omega arith, omega arith, omega arith, omega arith, omega (arith, c .before .before .before .before .before .before .before .before .before .blanks-left .ensures .1)),
+      (rows-small (a .g) (a .r) (start .pre .0 .0) small wide high, width-small (a .g) (a .r) (start .pre .0 .0) small wide high, omega arith, omega (arith, reach, c .before .before .before .before .before .before .before .at .ensures .0)),
     )
 
-returns : tie.Need-returns Inv-loop μ-loop
-unfolding drawnAs
-returns c =
-    let head = c .before .loop in
-    let entry = c .before .before .before in
-    cell-end _ _ (cellByte _ _ _ _ _) _ _ _ _ (cellDot _ _ _ _) _ _ _ (λ a. entry .before .slice-known .given a .fits)
-    (λ j r h. cell-byte _ _ (λ n. entry .shared-slice-known .given n .fits) _ _ _ j r (omega arith) (omega arith))
-    (head .inv .3) (head .inv .0) (c .loop-test .left)
+draw-requires-2 : tie.Need-draw-requires-2
+draw-requires-2 c κs =
+    let start = c .before .before .before .before .before .before .before .before .before .before .before .before .before .before in
+    let a = start .args in
+    let wide : 1 ≤ a .r .width = omega (arith, c .before .before .before .before .before .before .before .before .before .before .before .if1 .left) in
+    let high : 1 ≤ a .r .height = omega (arith, c .before .before .before .before .before .before .before .before .before .before .if2 .left) in
+    let small : memoryLength (a .g) ≤ 65536 = start .pre .0 .1 .small in
+    let p = c .before .before .before .before .before .before .before .before .placing .ensures in
+    let reach = reaches (a .g) (a .r) (start .pre .0 .0) small wide high in (
+      (p .1, p .2, omega arith, omega arith, omega arith, omega arith, omega arith, omega (arith, c .before .before .before .before .before .before .before .before .before .blanks-left .ensures .1)),
+      (rows-small (a .g) (a .r) (start .pre .0 .0) small wide high, width-small (a .g) (a .r) (start .pre .0 .0) small wide high, omega arith, omega (arith, reach, c .before .before .before .before .before .before .before .at .ensures .0)),
+    )
+
+returns-4 : tie.Need-returns-4
+returns-4 c =
+    let start = c .before .before .before .before .before .before .before .before .before .before .before .before .before .before .before .before .before in
+    let a = start .args in
+    drawn-rows (a .g) (a .framed) (a .cols .now) (a .w) (a .style) (a .r) (a .mem .now) (c .before .before .before .before .before .before .before .before .before .before .before .before .blanks-left .result) (c .before .before .before .before .before .before .before .before .before .before .before .placing .result) _ (c .before .before .before .before .before .before .before .before .before .before .before .before .blanks-left .ensures .0) (c .before .before .before .before .before .before .before .before .before .before .before .placing .ensures .0)
+    (λ n. c .before .before .before .before .before .before .before .before .before .before .before .before .before .before .before .before .slice-known .given n .fits) (λ n. c .before .before .before .before .before .before .before .before .before .before .before .before .before .before .before .shared-slice-known .given n .fits) (omega arith) (omega arith) (start .pre .0 .0 .down)
+    (start .pre .0 .0 .across) (start .pre .0 .1 .size)
+    (placed-at (cellStroke (a .cols .now) (c .before .before .before .before .before .before .before .before .before .before .before .before .blanks-left .result) (c .before .before .before .before .before .before .before .before .before .before .before .placing .result) (a .style)) (a .g .rows) (c .before .before .before .before .before .before .before .before .before .before .at .result) _ (a .r .width) (a .r .width) 1 (a .r .height) (a .mem .now) _ (c .before .before .before .before .before .before .before .before .before .before .at .ensures .0) refl (omega arith)
+    (c .before .before .draw .ensures))
+
+returns-5 : tie.Need-returns-5
+returns-5 c =
+    let start = c .before .before .before .before .before .before .before .before .before .before .before .before .before .before .before .before .before in
+    let a = start .args in
+    drawn-rows (a .g) (a .framed) (a .cols .now) (a .w) (a .style) (a .r) (a .mem .now) (c .before .before .before .before .before .before .before .before .before .before .before .before .blanks-left .result) (c .before .before .before .before .before .before .before .before .before .before .before .placing .result) _ (c .before .before .before .before .before .before .before .before .before .before .before .before .blanks-left .ensures .0) (c .before .before .before .before .before .before .before .before .before .before .before .placing .ensures .0)
+    (λ n. c .before .before .before .before .before .before .before .before .before .before .before .before .before .before .before .before .slice-known .given n .fits) (λ n. c .before .before .before .before .before .before .before .before .before .before .before .before .before .before .before .shared-slice-known .given n .fits) (omega arith) (omega arith) (start .pre .0 .0 .down)
+    (start .pre .0 .0 .across) (start .pre .0 .1 .size)
+    (placed-at (cellStroke (a .cols .now) (c .before .before .before .before .before .before .before .before .before .before .before .before .blanks-left .result) (c .before .before .before .before .before .before .before .before .before .before .before .placing .result) (a .style)) (a .g .rows) (c .before .before .before .before .before .before .before .before .before .before .at .result) _ (a .r .width) (a .r .width) (a .r .height) (a .r .height) (a .mem .now) _ (c .before .before .before .before .before .before .before .before .before .before .at .ensures .0) refl refl
+    (c .before .before .draw2 .ensures))
 
 pub walk-over-spec : {M : Type 1} → statement M
 walk-over-spec =
     tie.close
     (tie.spec
-    Inv-loop
-    μ-loop
+    returns
+    returns-2
     (λ c κs. search needs)
-    loop-holds
-    (λ c κs. omega arith)
-    (λ c. omega arith)
-    (λ c κs. omega arith)
-    (λ c. omega arith)
-    (λ c. omega arith)
-    loop-again
-    (λ c. omega arith)
-    returns)
+    (λ c κs. search needs)
+    (λ c κs. search needs)
+    is-whole-requires
+    row-requires
+    (λ c. search needs)
+    returns-3
+    draw-requires
+    (λ c. search needs)
+    returns-4
+    draw-requires-2
+    (λ c. search needs)
+    returns-5)

@@ -1,0 +1,2 @@
+-- A law that belongs to no one function: of the test for a whole cell.
+pub mod Whole
