@@ -1,8 +1,8 @@
 -- An enlarged cell laid into memory row by row is the paper's. Assumes nothing.
-use mathlib.Core.Path.{_≡_, refl, sym, ap, ap₂, _∙_}
+use mathlib.Core.Path.{_≡_, ap, _∙_}
 use mathlib.Core.Bool.{Bool, true, _&&_}
 use mathlib.Core.List.{List}
-use Prim.Native.Nat.{ℕ, _+_, _*_, _/_, _<_, _≤_}
+use Prim.Native.Nat.{ℕ, _+_, _*_, _/_, _≤_}
 use native.Mathlib.Nat.{mul-le-mul-left}
 use native.Mathlib.Omega.{arith}
 use borrow.Author.Tests.{eqb-true}
@@ -12,7 +12,7 @@ use Rattle.paper.specs.declared.Module.{Module}
 use Rattle.paper.specs.declared.Rect.{Rect}
 use Rattle.paper.specs.declared.Style.{Style}
 use Rattle.paper.specs.Panel.{address, memoryLength}
-use Rattle.paper.specs.Strokes.{rectAt, rectMap}
+use Rattle.paper.specs.Strokes.{rectAt}
 use Rattle.paper.specs.Cells.{blanksLeft, cellDot}
 use Rattle.laws_bytes.specs.Bytes.{glyphColumn, tallByte, reversedByte, cellByte, pennedByte}
 use Rattle.laws_bytes.proofs.Drawn.{cell-byte}

@@ -1,5 +1,5 @@
 -- Bytes laid into memory, one after the other: a byte more, a stretch after another, and the rectangle that they fill. Assumes nothing.
-use mathlib.Core.Path.{_≡_, refl, sym, ap, ap₂, subst, _∙_}
+use mathlib.Core.Path.{_≡_, refl, sym, ap, _∙_}
 use mathlib.Core.List.{List}
 use Prim.Native.Nat.{ℕ, zero, suc, _+_, _*_, _/_, _<_, _≤_}
 use native.Mathlib.Nat.{add-zero, mul-add-div, div-eq-of-lt, mul-le-mul-left}

@@ -1,6 +1,6 @@
 // Enlarged cells in memory: a whole one by rows whose mixing is written out, a part of one column by column.
-// It may use the paper, the columns of glyphs, the rows of cells and their parts. It knows addresses, and how far apart columns lie, but neither dots nor
-// rectangles.
+// It may use the paper, the columns of glyphs, the rows of cells and their parts. It knows addresses, and how far apart columns lie, but
+// neither dots nor rectangles.
 use glyphs_columns::Lift;
 use paper::Style;
 ghost use mathlib.Core.Path.{_≡_};

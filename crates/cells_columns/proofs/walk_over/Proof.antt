@@ -1,12 +1,12 @@
 -- `cells_columns::walk_over` meets its contract, by its tests. Assumes nothing.
-use mathlib.Core.Path.{_≡_, refl, sym, ap, _∙_}
-use Prim.Native.Nat.{_+_, _*_, _≤_}
+use mathlib.Core.Path.{_≡_, refl, sym, _∙_}
+use Prim.Native.Nat.{_*_, _≤_}
 use native.Mathlib.Omega.{arith}
 use borrow.Author.Needs.{needs}
 use lib.ListN.{length}
 use Rattle.paper.specs.Panel.{memoryLength}
 use Rattle.cells_cut.proofs.Whole.{whole-facts}
-use Rattle.cells_rows.specs.Laid.{piled, cellStroke, wholeOf}
+use Rattle.cells_rows.specs.Laid.{cellStroke, wholeOf}
 use Rattle.cells_wide.proofs.Styles.{alike, one-row}
 use Rattle.cells_columns.proofs.Enlarged.{placed-at, twice-facts, rows-small, width-small, reaches, no-column, no-row, drawn-rows}
 use Rattle.cells_columns.proofs.walk_over.Statement.{statement}

@@ -1,5 +1,5 @@
 -- `cells_rows::put` meets its contract: a byte after the other, as many as are asked for. Assumes nothing.
-use mathlib.Core.Path.{_≡_, refl}
+use mathlib.Core.Path.{refl}
 use native.Mathlib.Omega.{arith}
 use borrow.Author.Needs.{needs}
 use lib.ListN.{length-set}

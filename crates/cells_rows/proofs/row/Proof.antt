@@ -40,13 +40,9 @@ loop-holds c =
     let a = c .before .before .before .args in
     (omega arith, refl, omega arith, laid-none (rowStroke (a .cols .now) (a .blanks) (a .p) (a .style) (a .down) (a .r) (a .n) (a .mixing)) (a .s) (a .from) (0 * a .n) (a .mem .now) (omega arith))
 
--- a column more is laid: it lies in memory
-module _ (from s n whole len a k : ℕ) (h : from + s * (whole * n) < len + s) (l : k < whole) (e : a ≡ from + s * (k * n)) where
-  reaches : a + s * n < len + s
-  reaches = omega (arith, e, column-reach from s n k whole len l h)
-
-  next-at : a + s * n ≡ from + s * ((k + 1) * n)
-  next-at = omega (arith, e)
+-- a column more lies in memory
+reaches : (from s n whole len a k : ℕ) → from + s * (whole * n) < len + s → k < whole → a ≡ from + s * (k * n) → a + s * n < len + s
+reaches from s n whole len a k h l e = omega (arith, e, column-reach from s n k whole len l h)
 
 put-requires : tie.Need-put-requires Inv-loop μ-loop Inv-loop2 μ-loop2
 put-requires c κs =

@@ -1,11 +1,11 @@
 -- `cells_wide::draw` meets its contract. The loop's invariant: the first r rows are drawn. Assumes nothing.
-use mathlib.Core.Path.{_≡_, refl, sym, ap, _∙_}
-use Prim.Native.Nat.{ℕ, _+_, _*_, _-_, _≤_}
+use mathlib.Core.Path.{_≡_, refl, sym, _∙_}
+use Prim.Native.Nat.{_-_, _≤_}
 use native.Mathlib.Omega.{arith}
 use borrow.Author.Needs.{needs}
 use lib.ListN.{length}
 use Rattle.cells_cut.proofs.Whole.{whole-facts}
-use Rattle.cells_rows.specs.Laid.{laid, piled, cellStroke}
+use Rattle.cells_rows.specs.Laid.{piled, cellStroke}
 use Rattle.cells_wide.proofs.Styles.{as-high, as-more}
 use Rattle.cells_wide.proofs.draw.Statement.{statement}
 use Rattle.cells_wide.proofs.draw.Tie as tie
