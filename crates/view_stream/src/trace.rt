@@ -1,6 +1,6 @@
-// Feeds a recorded stream to a fresh panel byte by byte and writes a line for each command: its place in the stream, its bytes,
-// its kind, the number and words of its outcome, and the current window with its cursor after it.
-// Standard input has the font's 1,120 bytes and then the stream. A command that is half read at the end has a line too, with 9.
+// A recorded stream's commands, a line for each: its place in the stream, its bytes, its kind, the number and words of its outcome, and the
+// current window with its cursor after it. The stream is fed to a fresh panel byte by byte. A command that is half read at the end has a line
+// too, with 9.
 use libc::STDOUT_FILENO;
 use paper::Outcome;
 use paper::State;
@@ -21,8 +21,8 @@ fn tell(stream: &[u8], from: usize, next: usize, o: Outcome, s: State) -> usize 
     next
 }
 
-// Feeds the stream.
-fn trace(font: &[u8], stream: &[u8], mem: &mut [u8], store: &mut [u8]) {
+// Feeds the stream to a panel with this memory and room for downloads.
+fn feed(font: &[u8], stream: &[u8], mem: &mut [u8], store: &mut [u8]) {
     let a = panel::start(mem, store);
     let mut state = a.state;
     let mut from = 0;
@@ -40,21 +40,9 @@ fn trace(font: &[u8], stream: &[u8], mem: &mut [u8], store: &mut [u8]) {
     }
 }
 
-fn main() {
-    let mut font = [0u8; 1120];
+// Feeds the stream to a fresh panel and writes the lines.
+pub fn trace(font: &[u8], stream: &[u8]) {
     let mut mem = [0u8; 1024];
     let mut store = [0u8; 144];
-    let mut room = view_io::room();
-    if !view_io::read_font(&mut font) {
-        return;
-    }
-    let input = view_io::read_rest(&mut room);
-    if input.ok {
-        trace(
-            &font,
-            view_text::part(&room, 0, input.bytes),
-            &mut mem,
-            &mut store,
-        );
-    }
+    feed(font, stream, &mut mem, &mut store);
 }

@@ -1,10 +1,10 @@
--- `view_trace::trace` is safe and ends. The measure is how many bytes are left.
+-- `view_stream::trace::feed` is safe and ends. The measure is how many bytes are left.
 use borrow.Author.Needs.{needs}
 use Prim.Native.Nat.{_≤_, _-_}
 use lib.ListN.{length}
 use mathlib.Core.Path.{_≡_}
-use Rattle.view_trace.proofs.trace.Statement.{statement}
-use Rattle.view_trace.proofs.trace.Tie as tie
+use Rattle.view_stream.proofs.trace.feed.Statement.{statement}
+use Rattle.view_stream.proofs.trace.feed.Tie as tie
 
 abbrev Inv-loop : tie.InvT-loop
 Inv-loop font stream mem₀ store₀ state₀ from₀ i₀ mem store state from i = (length mem ≡ length mem₀) × (length store ≡ length store₀) × (i ≤ length stream)
@@ -12,8 +12,8 @@ Inv-loop font stream mem₀ store₀ state₀ from₀ i₀ mem store state from 
 abbrev μ-loop : tie.MeasureT-loop
 μ-loop font stream mem₀ store₀ state₀ from₀ i₀ mem store state from i = length stream - i
 
-pub trace-spec : {M : Type 1} → statement M
-trace-spec =
+pub feed-spec : {M : Type 1} → statement M
+feed-spec =
     tie.close
     (tie.spec
     Inv-loop

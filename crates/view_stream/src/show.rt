@@ -1,7 +1,6 @@
-// Feeds a recorded stream to a fresh panel and writes its glass, 224 bytes, and then a line of counts. The glass is what one refresh
-// brings. Standard input has the font's 1,120 bytes and then the stream.
+// A recorded stream's glass, 224 bytes, and a line of counts. The glass is what one refresh brings after the stream was fed to a fresh panel.
 ghost use Rattle.paper.specs.Panel.{panel};
-ghost use Rattle.view_show.specs.Shown.{Shows, fedFresh, shownFresh};
+ghost use Rattle.view_stream.specs.Shown.{Shows, fedFresh, shownFresh};
 use libc::STDOUT_FILENO;
 use paper::Half;
 
@@ -54,8 +53,8 @@ fn put_end(out: &mut [u8], at: usize, half: bool) -> usize {
     view_text::end(out, at)
 }
 
-// Plays a stream and writes what became of it.
-fn show(font: &[u8], stream: &[u8]) {
+// Plays a stream and writes its glass and its counts.
+pub fn show(font: &[u8], stream: &[u8]) {
     let mut mem = [0u8; 1024];
     let mut store = [0u8; 144];
     let mut glass = [0u8; 224];
@@ -64,16 +63,4 @@ fn show(font: &[u8], stream: &[u8]) {
     let n = put_note(&mut note, c);
     io::write_all(STDOUT_FILENO, &glass);
     io::write_all(STDOUT_FILENO, view_text::part(&note, 0, n));
-}
-
-fn main() {
-    let mut font = [0u8; 1120];
-    let mut room = view_io::room();
-    if !view_io::read_font(&mut font) {
-        return;
-    }
-    let input = view_io::read_rest(&mut room);
-    if input.ok {
-        show(&font, view_text::part(&room, 0, input.bytes));
-    }
 }
