@@ -326,8 +326,10 @@ static void put_pushed(void)
         PUT("LANE 4  00:58.31");
 }
 
-/* Two downloads, one of five columns and one of seven, and lines in which they stand; an earlier archive may not know them. */
-#ifndef EARLIER
+/* Two downloads, one of five columns and one of seven, and lines in which they stand; an earlier archive knows them if its
+ * record is as long as today's. */
+#if !defined EARLIER || EARLIER == PANEL_STATE
+#define DOWNLOADS
 static void put_lanes(void)
 {
     length = 0;
@@ -371,7 +373,7 @@ static const struct row {
     {"scrolling, MD3", put_pushed, feed_whole},
     {"text, refresh each 64 bytes", put_text, feed_and_refresh},
     {"mixed, refresh each 64 bytes", put_mixed, feed_and_refresh},
-#ifndef EARLIER
+#ifdef DOWNLOADS
     {"text with downloads drawn", put_lanes, feed_whole},
     {"defines and erases", put_defines, feed_whole},
 #endif

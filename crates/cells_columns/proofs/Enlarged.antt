@@ -19,11 +19,11 @@ use Rattle.laws_bytes.proofs.Drawn.{cell-byte}
 use Rattle.laws_memory.specs.Rectangles.{Within, Bytes}
 use Rattle.laws_memory.proofs.Rects.{rect-none, rect-same}
 use Rattle.laws_memory.proofs.Tests.{and-parts}
+use Rattle.laws_laid.specs.Laid.{Stroke, piled}
+use Rattle.laws_laid.proofs.Laid.{piled-rect}
 use Rattle.glyphs_columns.specs.declared.Lift.{Lift}
-use Rattle.glyphs_columns.specs.Columns.{mixedBy, placingOf}
+use Rattle.glyphs_columns.specs.Columns.{mixedBy, placingOf, cellStroke}
 use Rattle.glyphs_columns.proofs.Frames.{placed-byte}
-use Rattle.cells_rows.specs.Laid.{Stroke, piled, cellStroke}
-use Rattle.cells_rows.proofs.Laid.{piled-rect}
 use Rattle.cells_columns.specs.DrawnAs.{drawnAs}
 use Rattle.cells_columns.proofs.Columns.{inked, cell-end}
 

@@ -127,13 +127,14 @@ pub fn walk_over(g: Module, mem: &mut [u8], framed: bool, cols: &[u8], w: u8, st
     let a = dots::at(g, r.left, top);
     let s = g.rows;
     let twice = (style.mixing == 0) & (style.across == 2) & (style.down == 1);
-    if twice & cells_cut::is_whole(cols.len(), blanks, lift, style, width, height) {
+    let whole = cells_cut::is_whole(cols.len(), blanks, lift, style, width, height);
+    if twice & whole {
         cells_rows::row(mem, cols, blanks, lift, style, 1, 0, a, s, 2, 0);
         return;
     }
     if height == 1 {
-        cells_wide::draw(mem, cols, blanks, lift, style, a, s, width, 1);
+        cells_wide::draw(mem, cols, blanks, lift, style, a, s, width, 1, whole);
         return;
     }
-    cells_wide::draw(mem, cols, blanks, lift, style, a, s, width, height);
+    cells_wide::draw(mem, cols, blanks, lift, style, a, s, width, height, whole);
 }

@@ -1,15 +1,16 @@
 // Cells of which a part is drawn: whether one is whole, and a row of one that is not.
-// It may use the paper, the columns of glyphs, and rows of cells to say what it writes. It knows addresses, and how far apart columns lie, but
+// It may use the paper, the laws of what is laid into memory, and the columns of glyphs. It knows addresses, and how far apart columns lie, but
 // neither dots nor rectangles.
 use glyphs_columns::Lift;
 use paper::Style;
 ghost use mathlib.Core.Path.{_≡_};
 ghost use Prim.Native.Nat.{_+_, _*_, _≤_, _<_};
 ghost use lib.ListN.{length};
-ghost use Rattle.cells_rows.specs.Laid.{laid, cellStroke};
+ghost use Rattle.laws_laid.specs.Laid.{laid};
+ghost use Rattle.glyphs_columns.specs.Columns.{cellStroke};
 ghost use Rattle.cells_cut.specs.Whole.{isWhole};
 
-// Whether all of a cell is there, `glyph` columns after the blank ones, and no column repeated more than four times.
+// Whether all of a cell is there, `glyph` columns after at most one blank, and no column repeated more than four times.
 pub fn is_whole(
     glyph: usize,
     blanks: usize,
@@ -18,10 +19,13 @@ pub fn is_whole(
     width: usize,
     height: usize,
 ) -> bool
-    requires { ⌜ (1 ≤ style .across) × (p .down ≤ 1) × (blanks ≤ 255) × (width ≤ 65536) ⌝ }
+    requires { ⌜ (1 ≤ style .across) × (p .down ≤ 1) × (width ≤ 65536) ⌝ }
     ensures { λ t. ⌜ t ≡ isWhole glyph blanks p style width height ⌝ }
 {
     let n = style.across;
+    if 1 < blanks {
+        return false;
+    }
     if 4 < n {
         return false;
     }

@@ -1,3 +1,2 @@
--- Laws that belong to no one function: of bytes laid into memory, and of the columns of a row.
-pub mod Laid
+-- Laws that belong to no one function: of the columns of a row.
 mod Rows

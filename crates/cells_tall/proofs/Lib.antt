@@ -1,3 +1,2 @@
--- Laws that belong to no one function: of columns of two bytes stored in memory, and of the columns of a cell.
-mod Stacked
+-- Laws that belong to no one function: of the columns of a cell two rows high.
 mod Columns

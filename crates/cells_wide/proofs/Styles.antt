@@ -1,23 +1,16 @@
 -- Rows whose enlargement and mixing are written out are those that the style asks for. Assumes nothing.
 use mathlib.Core.Path.{_≡_, refl, sym, ap, ap₂, _∙_}
 use mathlib.Core.List.{List}
-use Prim.Native.Nat.{ℕ, zero, suc, _+_, _*_, _/_}
+use Prim.Native.Nat.{ℕ, suc, _+_, _*_, _/_}
 use native.Mathlib.Nat.{add-zero}
 use native.Mathlib.Omega.{arith}
 use borrow.Author.Tests.{ne-eqb}
 use lib.ListN.{getD, set}
 use Rattle.paper.specs.declared.Style.{Style}
+use Rattle.laws_laid.specs.Laid.{Stroke, byteTurn, laid, piled}
+use Rattle.laws_laid.proofs.Laid.{turned-same}
 use Rattle.glyphs_columns.specs.declared.Lift.{Lift}
-use Rattle.glyphs_columns.specs.Columns.{mixedBy, rowByte}
-use Rattle.cells_rows.specs.Laid.{Stroke, laid, piled, rowStroke, cellStroke}
-
--- strokes that agree lay the same
-laid-same : (f h : Stroke) (s a w : ℕ) (m : List ℕ) → ((j b : ℕ) → f j b ≡ h j b) → laid f s a w m ≡ laid h s a w m
-laid-same f h s a zero m e = refl
-laid-same f h s a (suc w) m e =
-    let before = laid-same f h s a w m e in
-    ap (λ (l : List ℕ). set l (a + s * w) (f w (getD l (a + s * w) 0))) before
-    ∙ ap (set (laid h s a w m) (a + s * w)) (e w (getD (laid h s a w m) (a + s * w) 0))
+use Rattle.glyphs_columns.specs.Columns.{mixedBy, rowByte, rowStroke, cellStroke}
 
 -- mixing by a number that stands for the style's
 abbrev pub Alike : ℕ → ℕ → Type 0
@@ -36,7 +29,8 @@ module _ (cols : List ℕ) (blanks : ℕ) (p : Lift) (y : Style) (d n k whole s 
       → laid (rowStroke cols blanks p y d r n k) s at (whole * n) m ≡ laid (cellStroke cols blanks p y r) s at (whole * y .across) m
   row-as r at m =
       rw (down, across)
-      (laid-same _ (λ j b. mixedBy (y .mixing) (rowByte cols blanks p y d r (j / n)) b) s at (whole * n) m (λ j b. mixing _ b))
+      (turned-same _ (byteTurn (λ j b. mixedBy (y .mixing) (rowByte cols blanks p y d r (j / n)) b) s at) (whole * n) m
+      (λ j l h. ap (set l (at + s * j)) (mixing _ (getD l (at + s * j) 0))))
 
   -- one row
   pub one-row : (m m₁ : List ℕ) → m₁ ≡ laid (rowStroke cols blanks p y d 0 n k) s a (whole * n) m

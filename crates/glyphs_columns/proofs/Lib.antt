@@ -1,2 +1,3 @@
--- Laws that belong to no one function: of which glyphs are framed, and of how a glyph is placed.
+-- Laws that belong to no one function: of which glyphs are framed, of how a glyph is placed, and of the columns of a whole cell.
 pub mod Frames
+pub mod Beside

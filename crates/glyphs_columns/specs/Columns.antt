@@ -30,6 +30,18 @@ abbrev pub mixedBy : ℕ → ℕ → ℕ → ℕ
 mixedBy mixing v old =
     cond (eqb mixing 0) v (cond (eqb mixing 1) (bitOr old v) (cond (eqb mixing 2) (bitAnd old v) (bitXor old v)))
 
+-- what becomes of the byte at column j of one row of a cell, each column repeated n times
+abbrev pub rowStroke : List ℕ → ℕ → Lift → Style → ℕ → ℕ → ℕ → ℕ → ℕ → ℕ → ℕ
+rowStroke cols blanks p y down r n mixing j b = mixedBy mixing (rowByte cols blanks p y down r (j / n)) b
+
+-- and of a cell's row r, as its style asks for it
+abbrev pub cellStroke : List ℕ → ℕ → Lift → Style → ℕ → ℕ → ℕ → ℕ
+cellStroke cols blanks p y r = rowStroke cols blanks p y (y .down) r (y .across) (y .mixing)
+
+-- how many columns a whole cell has before they are repeated: a glyph with a blank dot has a blank column on its right
+abbrev pub wholeOf : List ℕ → ℕ → Lift → ℕ
+wholeOf cols blanks p = blanks + length cols + p .down
+
 -- the byte of a column on one of its rows
 abbrev pub atRow : Tall → ℕ → ℕ
 atRow t r = cond (eqb r 0) (t .upper) (t .lower)

@@ -7,9 +7,9 @@ use native.Mathlib.Omega.{arith}
 use borrow.Author.Needs.{needs}
 use lib.ListN.{length, length-set, getD}
 use Rattle.laws_bytes.specs.Bytes.{tallByte, reversedByte}
-use Rattle.glyphs_columns.specs.Columns.{mixedBy, liftedOf}
-use Rattle.cells_rows.specs.Laid.{laid, cellStroke}
-use Rattle.cells_rows.proofs.Laid.{laid-to, laid-more}
+use Rattle.laws_laid.specs.Laid.{byteTurn, laid}
+use Rattle.laws_laid.proofs.Laid.{turned-to, laid-more}
+use Rattle.glyphs_columns.specs.Columns.{mixedBy, liftedOf, cellStroke}
 use Rattle.cells_cut.proofs.cut_row.Statement.{statement}
 use Rattle.cells_cut.proofs.cut_row.Tie as tie
 
@@ -63,7 +63,7 @@ returns : tie.Need-returns Inv-loop μ-loop
 returns c =
     let head = c .before .loop in
     let a = c .before .before .before .before .before .args in
-    laid-to (cellStroke (a .cols .now) (a .blanks) (a .p) (a .style) (a .r)) (a .s) (a .from) (head .j) (a .width) (a .mem .now) (head .mem) (head .inv .3) (omega arith)
+    turned-to (byteTurn (cellStroke (a .cols .now) (a .blanks) (a .p) (a .style) (a .r)) (a .s) (a .from)) (head .j) (a .width) (a .mem .now) (head .mem) (head .inv .3) (omega arith)
 
 pub cut-row-spec : {M : Type 1} → statement M
 cut-row-spec =

@@ -20,29 +20,37 @@ no true false = refl
 no false t = refl
 
 returns : tie.Need-returns
-returns c = rw (lt-leb (c .before .args .style .across) 4 (c .if1 .taken))
+returns c = rw (lt-leb (c .before .args .blanks) 1 (c .if1 .taken))
 
 returns-2 : tie.Need-returns-2
 returns-2 c =
-    let start = c .before .before in
-    let a = start .args in
-    rw (ne-eqb (a .width) ((a .blanks + a .glyph + a .p .down) * a .style .across)
-    (too-wide (a .glyph) (a .blanks) (a .p .down) (a .style .across) (a .width) (omega arith) (omega arith)))
-    (no (leb (a .style .across) 4) (eqb (a .height) (a .style .down)))
+    let a = c .before .before .args in
+    rw (le-leb (a .blanks) 1 (omega arith), lt-leb (a .style .across) 4 (c .if2 .taken))
 
 returns-3 : tie.Need-returns-3
 returns-3 c =
-    let a = c .before .before .before .before .args in
-    rw (le-leb (a .style .across) 4 (omega arith), ne-eqb (a .height) (a .style .down) (c .if3 .taken))
+    let start = c .before .before .before in
+    let a = start .args in
+    rw (
+      le-leb (a .blanks) 1 (omega arith),
+      ne-eqb (a .width) ((a .blanks + a .glyph + a .p .down) * a .style .across)
+          (too-wide (a .glyph) (a .blanks) (a .p .down) (a .style .across) (a .width) (omega arith) (omega arith)),
+    )
+    (no (leb (a .style .across) 4) (eqb (a .height) (a .style .down)))
 
 returns-4 : tie.Need-returns-4
 returns-4 c =
     let a = c .before .before .before .before .before .args in
-    rw (le-leb (a .style .across) 4 (omega arith), eq-eqb (a .height) (a .style .down) (omega arith))
+    rw (le-leb (a .blanks) 1 (omega arith), le-leb (a .style .across) 4 (omega arith), ne-eqb (a .height) (a .style .down) (c .if4 .taken))
+
+returns-5 : tie.Need-returns-5
+returns-5 c =
+    let a = c .before .before .before .before .before .before .args in
+    rw (le-leb (a .blanks) 1 (omega arith), le-leb (a .style .across) 4 (omega arith), eq-eqb (a .height) (a .style .down) (omega arith))
 
 mul-result : tie.Need-mul-result
 mul-result c =
-    let a = c .before .before .before .before .before .args in
+    let a = c .before .before .before .before .before .before .args in
     let few : a .style .across ≤ 4 = omega arith in
     omega (arith, mul-le-mul-left (a .blanks + a .glyph + a .p .down) few)
 
@@ -52,11 +60,12 @@ is-whole-spec =
     (tie.spec
     returns
     returns-2
-    (λ c. search needs)
     returns-3
+    (λ c. search needs)
+    returns-4
     (λ c. omega arith)
     (λ c. search needs)
     (λ c. omega arith)
     (λ c. search needs)
     mul-result
-    returns-4)
+    returns-5)

@@ -3,9 +3,9 @@ use mathlib.Core.Path.{refl}
 use native.Mathlib.Omega.{arith}
 use borrow.Author.Needs.{needs}
 use lib.ListN.{length-set}
+use Rattle.laws_laid.specs.Laid.{Stroke}
+use Rattle.laws_laid.proofs.Laid.{laid-more, reach-1, reach-2, reach-3, reach-4}
 use Rattle.glyphs_columns.specs.Columns.{mixedBy}
-use Rattle.cells_rows.specs.Laid.{Stroke}
-use Rattle.cells_rows.proofs.Laid.{laid-more, reach-1, reach-2, reach-3, reach-4}
 use Rattle.cells_rows.proofs.put.Statement.{statement}
 use Rattle.cells_rows.proofs.put.Tie as tie
 

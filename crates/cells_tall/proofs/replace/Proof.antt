@@ -1,150 +1,81 @@
--- `cells_tall::replace` meets its contract. The loops' invariants: the columns so far are stored, and the next goes to address a. The second
--- loop's is of any memory from which the blank columns were stored. Assumes nothing.
-use mathlib.Core.Path.{_≡_, refl, sym, ap, _∙_}
-use mathlib.Core.List.{List}
-use Prim.Native.Nat.{ℕ, _+_, _*_, _-_, _<_, _≤_}
+-- `cells_tall::replace` meets its contract. The loop's invariant: the glyph's columns so far are stored, and the next goes to address a.
+-- Assumes nothing.
+use mathlib.Core.Path.{ap, _∙_}
+use mathlib.Core.Bool.{false}
+use Prim.Native.Nat.{_-_}
 use native.Mathlib.Nat.{mul-le-mul-left}
 use native.Mathlib.Omega.{arith}
-use borrow.Author.Needs.{needs}
-use lib.ListN.{length}
-use Rattle.cells_tall.specs.Stacked.{spreadOf, reversedBoth, stacked}
-use Rattle.cells_tall.proofs.Stacked.{stacked-none, stacked-to, each, column-more, column-reach}
-use Rattle.cells_tall.proofs.Columns.{bothOf, both-left, both-glyph, both-right, cell-piled}
+use Rattle.cells_tall.specs.Both.{spreadOf, reversedBoth}
+use Rattle.cells_tall.proofs.Columns.{Stored, stored-none, stored-more, stored-all, reach-left, reach-glyph, reach-right}
 use Rattle.cells_tall.proofs.replace.Statement.{statement}
 use Rattle.cells_tall.proofs.replace.Tie as tie
 
 abbrev Inv-loop : tie.InvT-loop
-Inv-loop mem₀ cols blanks p style from s n step blank a₀ k₀ mem a k =
-    (k ≤ blanks) × (length mem ≡ length mem₀) × (a ≡ from + s * (k * n))
-    × (mem ≡ stacked (each (bothOf cols blanks p style) n) s from (k * n) mem₀)
+Inv-loop mem₀ cols blanks p style from s n step blank a₀ j₀ j-end mem a j = Stored cols blanks p style false n s from mem₀ mem a j
 
 abbrev μ-loop : tie.MeasureT-loop
-μ-loop mem₀ cols blanks p style from s n step blank a₀ k₀ mem a k = blanks - k
+μ-loop mem₀ cols blanks p style from s n step blank a₀ j₀ j-end mem a j = j-end - j
 
-abbrev Inv-loop2 : tie.InvT-loop2
-Inv-loop2 mem₀ cols blanks p style from s n step blank a₀ j₀ j-end mem a j =
-    (j ≤ j-end) × (length mem ≡ length mem₀) × (a ≡ from + s * ((blanks + j) * n))
-    × ((m : List ℕ) → mem₀ ≡ stacked (each (bothOf cols blanks p style) n) s from (blanks * n) m
-    → mem ≡ stacked (each (bothOf cols blanks p style) n) s from ((blanks + j) * n) m)
+mul-step : tie.Need-mul-step Inv-loop μ-loop
+mul-step c = let start = c .before .before in omega (arith, mul-le-mul-left (start .args .s) (start .pre .0 .4))
 
-abbrev μ-loop2 : tie.MeasureT-loop2
-μ-loop2 mem₀ cols blanks p style from s n step blank a₀ j₀ j-end mem a j = j-end - j
-
-mul-step : tie.Need-mul-step Inv-loop μ-loop Inv-loop2 μ-loop2
-mul-step c = let start = c .before .before in omega (arith, mul-le-mul-left (start .args .s) (start .pre .0 .3))
-
-loop-holds : tie.Need-loop-holds Inv-loop μ-loop Inv-loop2 μ-loop2
-loop-holds c =
-    let a = c .before .before .before .args in
-    (omega arith, refl, omega arith, stacked-none (each (bothOf (a .cols .now) (a .blanks) (a .p) (a .style)) (a .n)) (a .s) (a .from) (0 * a .n) (a .mem .now) (omega arith))
-
--- a column more is stored: it lies in memory
-module _ (from s n whole len a k : ℕ) (h : from + 1 + s * (whole * n) < len + s) (l : k < whole) (e : a ≡ from + s * (k * n)) where
-  reaches : a + 1 + s * n < len + s
-  reaches = omega (arith, e, column-reach from s n k whole len l h)
-
-  next-at : a + s * n ≡ from + s * ((k + 1) * n)
-  next-at = omega (arith, e)
-
-put-both-requires : tie.Need-put-both-requires Inv-loop μ-loop Inv-loop2 μ-loop2
-put-both-requires c κs =
-    let head = c .before .before .loop in
-    let start = c .before .before .before .before .before .before in
-    let reach = reaches _ _ _ _ _ _ (head .k) (start .pre .1) (omega arith) (head .inv .2) in
-    (omega arith, omega arith, omega (arith, reach, head .inv .1), omega arith, omega arith)
-
-add-a : tie.Need-add-a Inv-loop μ-loop Inv-loop2 μ-loop2
-add-a c =
-    let head = c .before .before .before .before .before .loop in
-    let start = c .before .before .before .before .before .before .before .before .before in
-    omega (arith, reaches _ _ _ _ _ _ (head .k) (start .pre .1) (omega arith) (head .inv .2))
-
-loop-again : tie.Need-loop-again Inv-loop μ-loop Inv-loop2 μ-loop2
-loop-again c =
-    let head = c .before .before .before .before .before .loop in
-    let start = c .before .before .before .before .before .before .before .before .before in
-    let a = start .args in (
-      omega arith,
-      omega (arith, c .before .before .put-both .kept .0),
-      omega (arith, head .inv .2),
-      column-more (bothOf (a .cols .now) (a .blanks) (a .p) (a .style)) (a .n) (a .s) (a .from) (a .mem .now) (head .k) _ _ _ _ (head .inv .3) (head .inv .2)
-          (c .before .before .before .before .before .before .reversed-both .ensures ∙ sym (both-left (a .cols .now) (a .blanks) (a .p) (a .style) (head .k) (omega arith)))
-          (c .before .before .put-both .ensures),
-    )
-
-loop2-holds : tie.Need-loop2-holds Inv-loop μ-loop Inv-loop2 μ-loop2
-loop2-holds c =
-    let a = c .before .before .before .before .before .args in
-    let done : c .before .loop .k ≡ a .blanks + 0 = omega arith in (
-      omega arith,
-      refl,
-      c .before .loop .inv .2 ∙ ap (λ (t : ℕ). a .from + a .s * (t * a .n)) done,
-      λ m e. stacked-to (each (bothOf (a .cols .now) (a .blanks) (a .p) (a .style)) (a .n)) (a .s) (a .from) (a .blanks * a .n) ((a .blanks + 0) * a .n) m (c .before .loop .mem) e (omega arith),
-    )
-
-put-both-requires-2 : tie.Need-put-both-requires-2 Inv-loop μ-loop Inv-loop2 μ-loop2
-put-both-requires-2 c κs =
-    let head = c .before .before .before .before .before .before .loop2 in
-    let start = c .before .before .before .before .before .before .before .before .before .before .before .before in
-    let reach = reaches _ _ _ _ _ _ (start .args .blanks + head .j) (start .pre .1) (omega arith) (head .inv .2) in
-    (omega arith, omega arith, omega (arith, reach, head .inv .1, c .before .before .before .before .before .before .before .before .loop .inv .1), omega arith, omega arith)
-
-add-a-2 : tie.Need-add-a-2 Inv-loop μ-loop Inv-loop2 μ-loop2
-add-a-2 c =
-    let head = c .before .before .before .before .before .before .before .before .before .loop2 in
-    let start = c .before .before .before .before .before .before .before .before .before .before .before .before .before .before .before in
-    omega (arith, reaches _ _ _ _ _ _ (start .args .blanks + head .j) (start .pre .1) (omega arith) (head .inv .2))
-
-loop2-again : tie.Need-loop2-again Inv-loop μ-loop Inv-loop2 μ-loop2
-loop2-again c =
-    let head = c .before .before .before .before .before .before .before .before .before .loop2 in
-    let start = c .before .before .before .before .before .before .before .before .before .before .before .before .before .before .before in
+edge-requires : tie.Need-edge-requires Inv-loop μ-loop
+edge-requires c κs =
+    let start = c .before .before .before .before in
     let a = start .args in
-    let glyph = both-glyph (a .cols .now) (a .blanks) (a .p) (a .style) (head .j) (omega arith) in (
-      omega arith,
-      omega (arith, c .before .before .put-both2 .kept .0),
-      omega (arith, head .inv .2),
-      λ m e. stacked-to (each (bothOf (a .cols .now) (a .blanks) (a .p) (a .style)) (a .n)) (a .s) (a .from) ((a .blanks + head .j + 1) * a .n) ((a .blanks + (head .j + 1)) * a .n) m _
-          (column-more (bothOf (a .cols .now) (a .blanks) (a .p) (a .style)) (a .n) (a .s) (a .from) m (a .blanks + head .j) _ _ _ _ (head .inv .3 m e)
-          (head .inv .2)
-          (c .before .before .before .reversed-both2 .ensures
-          ∙ ap (reversedBoth (a .style)) (c .before .before .before .before .before .spread .ensures ∙ ap spreadOf (c .before .before .before .before .before .before .placed .ensures))
-          ∙ sym glyph)
-          (c .before .before .put-both2 .ensures)) (omega arith),
-    )
+    let q = start .pre .0 in
+    ((q .0, q .3, q .4, q .6, q .7), reach-left (a .cols .now) (a .blanks) (a .p) (a .style) false (a .n) (a .s) (a .from) _ (q .7) (start .pre .1))
 
-put-both-requires-3 : tie.Need-put-both-requires-3 Inv-loop μ-loop Inv-loop2 μ-loop2
-put-both-requires-3 c κs =
-    let head = c .before .before .before .before .loop2 in
-    let start = c .before .before .before .before .before .before .before .before .before .before in
-    let reach = reaches _ _ _ _ _ _ (start .args .blanks + head .j) (start .pre .1) (omega arith) (head .inv .2) in
-    (omega arith, omega arith, omega (arith, reach, head .inv .1, c .before .before .before .before .before .before .loop .inv .1), omega arith, omega arith)
+loop-holds : tie.Need-loop-holds Inv-loop μ-loop
+loop-holds c =
+    let a = c .before .before .before .before .before .before .before .args in
+    stored-none (a .cols .now) (a .blanks) (a .p) (a .style) false (a .n) (a .s) (a .from) _ _ (c .before .before .edge .ensures .1)
 
-returns : tie.Need-returns Inv-loop μ-loop Inv-loop2 μ-loop2
+put-both-requires : tie.Need-put-both-requires Inv-loop μ-loop
+put-both-requires c κs =
+    let head = c .before .before .before .before .before .before .loop in
+    let start = c .before .before .before .before .before .before .before .before .before .before .before .before .before .before in
+    let a = start .args in
+    let q = start .pre .0 in
+    let reach = reach-glyph (a .cols .now) (a .blanks) (a .p) (a .style) false (a .n) (a .s) (a .from) _ (q .7) (start .pre .1) (head .j) (head .a) _ (head .mem) (head .inv) (c .before .before .before .before .before .before .before .before .before .edge .kept .0) (c .before .before .before .before .before .loop-test .taken) in
+    (q .3, q .4, reach .0, q .6, reach .1)
+
+add-a : tie.Need-add-a Inv-loop μ-loop
+add-a c =
+    let head = c .before .before .before .before .before .before .before .before .before .loop in
+    let start = c .before .before .before .before .before .before .before .before .before .before .before .before .before .before .before .before .before in
+    let a = start .args in
+    omega (arith, reach-glyph (a .cols .now) (a .blanks) (a .p) (a .style) false (a .n) (a .s) (a .from) _ (start .pre .0 .7) (start .pre .1) (head .j) (head .a) _ (head .mem) (head .inv) (c .before .before .before .before .before .before .before .before .before .before .before .before .edge .kept .0) (c .before .before .before .before .before .before .before .before .loop-test .taken))
+
+loop-again : tie.Need-loop-again Inv-loop μ-loop
+loop-again c =
+    let head = c .before .before .before .before .before .before .before .before .before .loop in
+    let start = c .before .before .before .before .before .before .before .before .before .before .before .before .before .before .before .before .before in
+    let a = start .args in
+    stored-more (a .cols .now) (a .blanks) (a .p) (a .style) false (a .n) (a .s) (a .from) (head .j) (head .a) _ _ (head .mem) _ (start .pre .0 .3) (head .inv) (c .before .before .before .before .before .before .before .before .loop-test .taken) (c .before .before .put-both .kept .0)
+    (c .before .before .before .reversed-both2 .ensures
+    ∙ ap (reversedBoth (a .style)) (c .before .before .before .before .before .spread .ensures ∙ ap spreadOf (c .before .before .before .before .before .before .placed .ensures)))
+    (c .before .before .put-both .ensures)
+
+edge-requires-2 : tie.Need-edge-requires-2 Inv-loop μ-loop
+edge-requires-2 c κs =
+    let head = c .before .before .before .loop in
+    let start = c .before .before .before .before .before .before .before .before .before .before .before in
+    let a = start .args in
+    let q = start .pre .0 in
+    let reach = reach-right (a .cols .now) (a .blanks) (a .p) (a .style) false (a .n) (a .s) (a .from) _ (q .7) (start .pre .1) (head .j) (head .a) _ (head .mem) (head .inv) (c .before .before .before .before .before .before .edge .kept .0) in
+    ((q .1, q .3, q .4, q .6, reach .1), reach .0)
+
+same-length : tie.Need-same-length Inv-loop μ-loop
+same-length c = c .before .before .edge2 .kept .0 ∙ c .before .before .before .before .before .before .loop .inv .long ∙ c .before .before .before .before .before .before .before .before .before .edge .kept .0
+
+returns : tie.Need-returns Inv-loop μ-loop
 returns c =
-    let head = c .before .before .before .before .before .before .before .loop2 in
-    let first = c .before .before .before .before .before .before .before .before .before .loop in
-    let a = c .before .before .before .before .before .before .before .before .before .before .before .before .before .args in
-    let left : first .k ≡ a .blanks = omega arith in
-    let all : a .blanks + head .j + 1 ≡ a .blanks + length (a .cols .now) + a .p .down = omega arith in
-    stacked-to (each (bothOf (a .cols .now) (a .blanks) (a .p) (a .style)) (a .n)) (a .s) (a .from) ((a .blanks + head .j + 1) * a .n) ((a .blanks + length (a .cols .now) + a .p .down) * a .n) (a .mem .now) _
-    (column-more (bothOf (a .cols .now) (a .blanks) (a .p) (a .style)) (a .n) (a .s) (a .from) (a .mem .now) (a .blanks + head .j) _ _ _ _
-    (head .inv .3 (a .mem .now) (stacked-to (each (bothOf (a .cols .now) (a .blanks) (a .p) (a .style)) (a .n)) (a .s) (a .from) (first .k * a .n) (a .blanks * a .n) (a .mem .now) (first .mem) (first .inv .3) (ap (λ (t : ℕ). t * a .n) left)))
-    (head .inv .2)
-    (c .before .before .before .before .before .before .before .before .before .before .reversed-both .ensures ∙ sym (both-right (a .cols .now) (a .blanks) (a .p) (a .style) (head .j) (omega arith)))
-    (c .before .before .put-both3 .ensures)) (ap (λ (t : ℕ). t * a .n) all)
-    ∙ cell-piled (a .cols .now) (a .blanks) (a .p) (a .style) (a .n) (a .s) (a .from) ((a .blanks + length (a .cols .now) + a .p .down) * a .n) (a .mem .now) (omega arith)
-
-returns-2 : tie.Need-returns-2 Inv-loop μ-loop Inv-loop2 μ-loop2
-returns-2 c =
-    let head = c .before .before .before .loop2 in
-    let first = c .before .before .before .before .before .loop in
-    let a = c .before .before .before .before .before .before .before .before .before .args in
-    let left : first .k ≡ a .blanks = omega arith in
-    let all : a .blanks + head .j ≡ a .blanks + length (a .cols .now) + a .p .down = omega arith in
-    stacked-to (each (bothOf (a .cols .now) (a .blanks) (a .p) (a .style)) (a .n)) (a .s) (a .from) ((a .blanks + head .j) * a .n) ((a .blanks + length (a .cols .now) + a .p .down) * a .n) (a .mem .now) _
-    (head .inv .3 (a .mem .now) (stacked-to (each (bothOf (a .cols .now) (a .blanks) (a .p) (a .style)) (a .n)) (a .s) (a .from) (first .k * a .n) (a .blanks * a .n) (a .mem .now) (first .mem) (first .inv .3) (ap (λ (t : ℕ). t * a .n) left))) (ap (λ (t : ℕ). t * a .n) all)
-    ∙ cell-piled (a .cols .now) (a .blanks) (a .p) (a .style) (a .n) (a .s) (a .from) ((a .blanks + length (a .cols .now) + a .p .down) * a .n) (a .mem .now) (omega arith)
+    let head = c .before .before .before .before .before .before .loop in
+    let start = c .before .before .before .before .before .before .before .before .before .before .before .before .before .before in
+    let a = start .args in
+    stored-all (a .cols .now) (a .blanks) (a .p) (a .style) false (a .n) (a .s) (a .from) (head .j) (head .a) _ (a .mem .now) _ (head .mem) _ (start .pre .0 .3) (start .pre .0 .5)
+    (c .before .before .before .before .before .before .before .before .before .before .before .reversed-both .ensures) (c .before .before .before .before .before .before .before .before .before .edge .ensures .0) (head .inv) (c .before .before .before .before .before .loop-test .left) (c .before .before .edge2 .ensures .0)
 
 pub replace-spec : {M : Type 1} → statement M
 replace-spec =
@@ -152,28 +83,20 @@ replace-spec =
     (tie.spec
     Inv-loop
     μ-loop
-    Inv-loop2
-    μ-loop2
     mul-step
-    (λ c κs. search needs)
+    (λ c κs. tt)
+    edge-requires
     loop-holds
+    (λ c. c .before .loop-test .taken)
+    (λ c κs. let q = c .before .before .before .before .before .before .before .before .before .before .pre .0 in (q .1, q .2))
+    (λ c κs. tt)
+    (λ c κs. tt)
     put-both-requires
     add-a
     (λ c. omega arith)
     (λ c. omega arith)
     loop-again
-    loop2-holds
     (λ c. omega arith)
-    (λ c κs. search needs)
-    (λ c κs. search needs)
-    (λ c κs. search needs)
-    put-both-requires-2
-    add-a-2
-    (λ c. omega arith)
-    (λ c. omega arith)
-    loop2-again
-    put-both-requires-3
-    (λ c. search needs)
-    returns
-    (λ c. search needs)
-    returns-2)
+    edge-requires-2
+    same-length
+    returns)

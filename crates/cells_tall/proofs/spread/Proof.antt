@@ -3,18 +3,17 @@ use mathlib.Core.Path.{refl}
 use mathlib.Core.Bool.{Bool}
 use Prim.Native.Nat.{ℕ, _*_, _/_, _%_}
 use native.Mathlib.Omega.{arith}
-use borrow.Author.Needs.{needs}
 use borrow.Author.Tests.{eqb-true}
 use lib.Dec.{eqb}
 use lib.Bits.{bitAnd, bitOr}
 use Rattle.laws_bytes.proofs.Every.{all}
-use Rattle.cells_tall.specs.Stacked.{spreadOf}
+use Rattle.cells_tall.specs.Both.{spreadOf}
 use Rattle.cells_tall.proofs.spread.Statement.{statement}
 use Rattle.cells_tall.proofs.spread.Tie as tie
 
 -- the halves apart, their dots in pairs, and each apart, by the code's two masks
 abbrev halves : ℕ → ℕ
-halves v = bitOr (v / 16) (v % 16 * 256 % 65536)
+halves v = bitAnd (bitOr (v * 256 % 65536) (v / 16)) 3855
 
 abbrev pairs : ℕ → ℕ → ℕ
 pairs two v = bitAnd (bitOr (halves v) (halves v * 4 % 65536)) two
@@ -29,4 +28,4 @@ returns : tie.Need-returns
 returns c = eqb-true _ _ (all (right _ _) 256 refl (c .args .v) (omega arith))
 
 pub spread-spec : {M : Type 1} → statement M
-spread-spec = tie.close (tie.spec (λ c. search needs) (λ c. search needs) returns)
+spread-spec = tie.close (tie.spec returns)
