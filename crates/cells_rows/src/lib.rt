@@ -1,6 +1,7 @@
 // Rows of enlarged cells, written into memory: each column of a row is made once, and stored as often as it is repeated.
-// It may use the paper, the laws of what is laid into memory, and the columns of glyphs. It knows addresses, and how far apart the columns of a row lie, but neither dots nor
-// rectangles. Mixing is handed down as a number that a caller writes out, so that a loop over columns does not ask for it.
+// It may use the paper, the laws of what is laid into memory, and the columns of glyphs. It knows addresses, and how far apart the columns
+// of a row lie, but neither dots nor rectangles. Mixing is handed down as a number that a caller writes out, so that a loop over columns
+// does not ask for it.
 use glyphs_columns::Lift;
 use paper::Style;
 ghost use mathlib.Core.Path.{_≡_};

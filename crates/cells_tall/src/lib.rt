@@ -4,7 +4,7 @@
 use glyphs_columns::Lift;
 use paper::Style;
 ghost use mathlib.Core.Path.{_≡_};
-ghost use Prim.Native.Nat.{_+_, _*_, _/_, _%_, _≤_, _<_};
+ghost use Prim.Native.Nat.{_+_, _*_, _≤_, _<_};
 ghost use lib.ListN.{length};
 ghost use Rattle.laws_laid.specs.Laid.{piled, stacked};
 ghost use Rattle.glyphs_columns.specs.Columns.{rowStroke, wholeOf};

@@ -10,7 +10,7 @@ use Rattle.paper.specs.Panel.{address, memoryLength}
 use Rattle.paper.specs.Strokes.{rectAt, rectMap}
 use Rattle.laws_memory.proofs.Addresses.{address-lt}
 use Rattle.laws_memory.proofs.Rects.{rect-none, row-turn, rect-turn}
-use Rattle.laws_laid.specs.Laid.{Stroke, Turn, turned, byteTurn, laid, piled}
+use Rattle.laws_laid.specs.Laid.{Stroke, Turn, turned, laid, piled}
 
 -- ---- turns
 
@@ -68,7 +68,7 @@ module _ (f : ℕ → Turn) (n : ℕ) (m : List ℕ) (pos : 1 ≤ n) where
 -- ---- bytes
 
 -- as long as before
-pub laid-length : (f : Stroke) (s a w : ℕ) (m : List ℕ) → length (laid f s a w m) ≡ length m
+laid-length : (f : Stroke) (s a w : ℕ) (m : List ℕ) → length (laid f s a w m) ≡ length m
 laid-length f s a zero m = refl
 laid-length f s a (suc w) m = length-set (laid f s a w m) _ _ ∙ laid-length f s a w m
 
@@ -98,7 +98,7 @@ columns-reach a s n k d c len l h = omega (arith, mul-le-mul-left s (mul-le-mul-
 -- ---- the rectangle that they fill
 
 -- on a row of memory
-pub laid-rect : (g : Module) (f : Stroke) (x y w : ℕ) (m : List ℕ) → y < g .rows → x + w ≤ g .columns → length m ≡ memoryLength g
+laid-rect : (g : Module) (f : Stroke) (x y w : ℕ) (m : List ℕ) → y < g .rows → x + w ≤ g .columns → length m ≡ memoryLength g
     → laid f (g .rows) (address g x y) w m ≡ rectMap g (rectAt x y w 1) (λ j r b. f j b) m
 laid-rect g f x y zero m hy hw e = rect-none g (rectAt x y 0 1) _ m (λ a i. omega arith)
 laid-rect g f x y (suc w) m hy hw e =
@@ -108,7 +108,7 @@ laid-rect g f x y (suc w) m hy hw e =
     ∙ ap (λ (n : ℕ). rectMap g (rectAt x y n 1) (λ j r b. f j b) m) (omega arith)
 
 -- rows one below the other are as long as before
-pub piled-length : (f : ℕ → Stroke) (s a w h : ℕ) (m : List ℕ) → length (piled f s a w h m) ≡ length m
+piled-length : (f : ℕ → Stroke) (s a w h : ℕ) (m : List ℕ) → length (piled f s a w h m) ≡ length m
 piled-length f s a w zero m = refl
 piled-length f s a w (suc h) m = laid-length (f h) s (a + h) w (piled f s a w h m) ∙ piled-length f s a w h m
 

@@ -1,6 +1,6 @@
 -- `cells_rows::row` meets its contract. The loop's invariant: the columns so far are laid, whatever the memory was before the blank one on the
 -- left, and the next goes to address a. Assumes nothing.
-use mathlib.Core.Path.{_≡_, refl, sym, ap, _∙_}
+use mathlib.Core.Path.{_≡_, refl, ap, _∙_}
 use mathlib.Core.List.{List}
 use Prim.Native.Nat.{ℕ, _+_, _*_, _-_, _<_, _≤_}
 use native.Mathlib.Nat.{mul-le-mul-left}
