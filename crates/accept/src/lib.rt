@@ -2,6 +2,8 @@
 // It tests the record alone: memory, font and glass are not in it.
 // It uses accept_settings, accept_windows, accept_half, accept_store and accept_note for those parts; the hold's and the spans' tests
 // stand here.
+#![tactic(auto)]
+
 ghost use Rattle.std.specs.Prelude.{◌≡◌};
 ghost use Rattle.paper.specs.Bounds.{hold_ok, span_ok, spans_ok, state_ok, accepted};
 

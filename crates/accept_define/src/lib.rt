@@ -1,5 +1,7 @@
 // Whether the parts of a half-read define are proper: its codes, and the columns that have come. A part of number 8's last clause.
 // It uses the paper alone. `batch_ok` and `columns_ok` are the calls.
+#![tactic(auto)]
+
 ghost use Rattle.std.specs.Prelude.{◌≡◌};
 ghost use Rattle.paper.specs.Bounds.{batch_ok, rest_blank, columns_ok};
 

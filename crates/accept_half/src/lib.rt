@@ -1,5 +1,7 @@
 // Whether what is half read is a proper beginning of a command: the last clause of number 8, over each of its cases.
 // It uses the paper, accept_words for parameters and settings and accept_define for a define's parts. `half_ok` is the call.
+#![tactic(auto)]
+
 ghost use Rattle.std.specs.Prelude.{◌≡◌};
 ghost use Rattle.paper.specs.Bounds.{half_ok};
 

@@ -1,5 +1,7 @@
 // Number 8, its clause on a half-read define: the note of a drop, by what the downloads hold.
 // It may use the paper, its laws, and downloads for whether a code is stored. `define_ok` is the call.
+#![tactic(auto)]
+
 ghost use Rattle.std.specs.Prelude.{◌≡◌, ◌-◌};
 ghost use Rattle.paper.specs.Bounds.{all_stored, note_ok, half_note_ok, define_ok};
 

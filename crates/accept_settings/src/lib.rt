@@ -1,5 +1,7 @@
 // Whether settings are accepted: the domain of each, one by one and of all in a record. Of number 8's bounds, those of the settings.
 // It uses the paper alone. The commands that set one ask it too.
+#![tactic(auto)]
+
 ghost use Rattle.std.specs.Prelude.{◌≡◌};
 ghost use Rattle.paper.specs.Bounds.{settings_ok};
 ghost use Rattle.paper.specs.Settings.{in_domain, in_enlargement};

@@ -1,5 +1,7 @@
 // Number 8, its clause on the downloads: the places.
 // It may use the paper, its laws, and downloads for the place of a code. `store_ok` is the call.
+#![tactic(auto)]
+
 ghost use Rattle.std.specs.Prelude.{◌≡◌, ◌<◌, length};
 ghost use Rattle.paper.specs.Downloads.{store_length};
 ghost use Rattle.paper.specs.Bounds.{is_free, download_ok, place_ok, store_ok};

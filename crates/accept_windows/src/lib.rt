@@ -1,5 +1,7 @@
 // Whether windows are accepted: rectangles, cursors, and which window may be selected. Of number 8's bounds, those of the windows.
 // It uses the paper alone. The commands that define and select a window ask it too.
+#![tactic(auto)]
+
 ghost use Rattle.std.specs.Prelude.{◌≡◌};
 ghost use Rattle.paper.specs.Bounds.{cursor_ok, is_blank, window_ok, windows_ok};
 ghost use Rattle.paper.specs.Settings.{is_defined, selectable, fits};

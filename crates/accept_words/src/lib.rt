@@ -1,6 +1,8 @@
 // Whether what a half-read command awaits can be awaited: a window's and an image's parameters, and a setting. A part of number 8's last
 // clause.
 // It uses the paper alone.
+#![tactic(auto)]
+
 ghost use Rattle.std.specs.Prelude.{◌≡◌};
 ghost use Rattle.paper.specs.Bounds.{word_ok};
 ghost use Rattle.paper.specs.Reading.{between, is_known};

@@ -1,6 +1,8 @@
 // Leaves measured: the functions that write memory and glass, exported to C for the benchmark in bench/.
 // It may use modules, dots, dots_shift, glass, glyphs and cells. Each function works on the 112 by 16 module; it tests what its leaf
 // asks and does nothing if that does not hold. It is no part of the panel.
+#![tactic(auto)]
+
 ghost use Rattle.laws_memory.specs.Rectangles.{Within};
 
 use paper::{Module, Rect, Span, Style};

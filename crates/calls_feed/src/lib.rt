@@ -1,5 +1,7 @@
 // Feed, for any usable module: what is refused, in its order.
 // It may use modules for the lengths, accept for the state's test, and turns for the loop over a piece.
+#![tactic(auto)]
+
 ghost use Rattle.std.specs.Prelude.{◌≡◌};
 ghost use Rattle.paper.specs.Calls.{feed_call};
 ghost use Rattle.laws_state.specs.Room.{Usable};

@@ -1,6 +1,8 @@
 // Refresh, for any usable module: what is refused, in its order, and the glass that it leaves.
 // It may use modules for the lengths, state for spans that are empty, accept for the state's test and glass for what is copied to the
 // glass.
+#![tactic(auto)]
+
 ghost use Rattle.std.specs.Prelude.{◌≡◌, []};
 ghost use Rattle.paper.specs.Calls.{refreshing, refresh_call};
 ghost use Rattle.laws_state.specs.Room.{Usable};

@@ -1,6 +1,8 @@
 // Hold and release, for any module: what is refused, in its order, and the state that each leaves.
 // It may use accept for the state's test, state for whether a window is held and state_held for what becomes of it. Neither call asks
 // anything of its caller.
+#![tactic(auto)]
+
 ghost use Rattle.std.specs.Prelude.{◌≡◌, ◌≤◌};
 ghost use Rattle.paper.specs.Settings.{window_at, is_defined};
 ghost use Rattle.paper.specs.Calls.{answer, hold_call, release_call};

@@ -1,6 +1,8 @@
 // Start, for any usable module: what is refused, and the memory and the downloads that it leaves.
 // It may use modules for the memory's length, state for the initial one, dots for the memory and downloads_write for the end of the
 // downloads.
+#![tactic(auto)]
+
 ghost use Rattle.std.specs.Prelude.{◌≡◌};
 ghost use Rattle.paper.specs.Calls.{start_call};
 ghost use Rattle.laws_state.specs.Room.{Usable};

@@ -1,6 +1,8 @@
 // Carrying: what a byte of the stream was read as, on state, memory and downloads.
 // It may use carry_command for a command, carry_store for a downloaded character's end, carry_state for an answer.
 // Its contract says that what was done is what the paper's meaning says, and that the downloads are those it leaves.
+#![tactic(auto)]
+
 ghost use Rattle.std.specs.Prelude.{◌≡◌, true, List, ℕ};
 ghost use Rattle.paper.specs.Downloads.{faces};
 ghost use Rattle.paper.specs.Carry.{exceeds, take_of, take_store};

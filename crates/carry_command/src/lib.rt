@@ -2,6 +2,8 @@
 // It may use carry_state, carry_windows, carry_settings, carry_store and carry_dots for what a command does, state for whether a window
 // is held.
 // Its contract says that what was done is what the paper's meaning says, and that the downloads are those it leaves.
+#![tactic(auto)]
+
 ghost use Rattle.std.specs.Prelude.{◌≡◌, true, List, ℕ};
 ghost use Rattle.paper.specs.Downloads.{faces};
 ghost use Rattle.paper.specs.Carry.{exceeds, command_of, command_store};

@@ -2,6 +2,8 @@
 // It may use carry_state for the answer's form, state and state_views for the state's parts, moves and dots for what is written, and
 // downloads_write for their end.
 // Each contract says that what was done is what the paper's meaning says.
+#![tactic(auto)]
+
 ghost use Rattle.std.specs.Prelude.{◌≡◌, List, ℕ, ◌+◌, ◌≤◌, ◌<◌};
 ghost use Rattle.paper.specs.Downloads.{Faces, faces};
 ghost use Rattle.paper.specs.Settings.{with_view, with_spans, view_of};

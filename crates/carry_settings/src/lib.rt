@@ -1,6 +1,8 @@
 // Carrying out what changes a setting, with its answers 14, 15, 11 in their order.
 // It may use accept_settings for a setting's domain, state_settings for what becomes of the settings; it knows nothing of memory.
 // `held` says whether a window is held. Each contract says that the state and the outcome are those of the paper's meaning.
+#![tactic(auto)]
+
 ghost use Rattle.std.specs.Prelude.{◌≡◌, ◌≤◌};
 ghost use Rattle.paper.specs.Downloads.{Faces};
 ghost use Rattle.paper.specs.Carry.{is_held, command_of};

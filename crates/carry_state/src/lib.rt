@@ -1,6 +1,8 @@
 // Carrying out what writes nothing: what a command comes to, and those that move the current window's cursor or set its mode.
 // It may use state_views for the state's parts, and moves and glyphs for where a cursor goes; it knows nothing of memory.
 // Each contract says that the state and the outcome are those of the paper's meaning, and that the meaning has no strokes.
+#![tactic(auto)]
+
 ghost use Rattle.std.specs.Prelude.{◌≡◌, true, ◌≤◌};
 ghost use Rattle.paper.specs.Downloads.{Faces};
 ghost use Rattle.paper.specs.Cells.{too_large};
@@ -14,7 +16,7 @@ use glyphs::Cell;
 use paper::{Command, Cursor, Module, Outcome, State, View};
 
 // What a command or a byte came to: the state afterwards, and the outcome.
-#[derive(Drop)]
+#[derive(Clone, Copy)]
 pub struct Done {
     pub state: State,
     pub outcome: Outcome,

@@ -3,6 +3,8 @@
 // It may use downloads_answer for what becomes of the downloads and for the answer, state for whether a window is held, carry_state for
 // the answer's form.
 // Each contract says that the state and the outcome are those of the paper's meaning, and the downloads those it leaves.
+#![tactic(auto)]
+
 ghost use Rattle.std.specs.Prelude.{◌≡◌, List, ℕ};
 ghost use Rattle.paper.specs.Downloads.{faces};
 ghost use Rattle.paper.specs.Carry.{is_held};

@@ -1,6 +1,8 @@
 // Carrying out what selects, defines and cancels a window, with its answers 15, 11, 17 in their order.
 // It may use accept_windows for which window there is and what fits, state for the state's parts; it knows nothing of memory.
 // `held` says whether a window is held. Each contract says that the state and the outcome are those of the paper's meaning.
+#![tactic(auto)]
+
 ghost use Rattle.std.specs.Prelude.{◌≡◌, ◌≤◌};
 ghost use Rattle.paper.specs.Downloads.{Faces};
 ghost use Rattle.paper.specs.Carry.{is_held, command_of};

@@ -1,6 +1,8 @@
 // Cells: what writes glyphs with as many columns as the font's into memory, a whole cell or a part of one.
 // It may use the paper, its laws, the glyphs and their columns, and cells_columns, which mixes them in. It knows nothing of cursors and
 // windows, nor where a glyph's columns come from.
+#![tactic(auto)]
+
 ghost use Rattle.std.specs.Prelude.{◌≡◌, ◌≤◌, length};
 ghost use Rattle.paper.specs.Strokes.{rect_at};
 ghost use Rattle.laws_memory.specs.Rectangles.{Fits, Within};

@@ -1,6 +1,8 @@
 // Cells of any glyph: of one with as many columns as the font's, or with others, as a download may have.
 // It may use cells for the former and cells_columns for the latter. It knows nothing of cursors and windows, nor where a glyph's columns
 // come from.
+#![tactic(auto)]
+
 ghost use Rattle.std.specs.Prelude.{◌≡◌, ◌≤◌};
 ghost use Rattle.laws_memory.specs.Rectangles.{Fits, Within};
 ghost use Rattle.cells.specs.Drawn.{drawn};

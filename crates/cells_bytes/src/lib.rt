@@ -1,6 +1,8 @@
 // Cells without a glyph: the all-off cell of a wrap, and one byte of an image.
 // It may use the paper, its laws, the glyphs' columns for reverse, and cells_columns, which mixes bytes in. It knows nothing of cursors
 // and windows.
+#![tactic(auto)]
+
 ghost use Rattle.std.specs.Prelude.{◌≡◌, ◌≤◌};
 ghost use Rattle.paper.specs.Strokes.{rect_at};
 ghost use Rattle.laws_memory.specs.Rectangles.{Fits, Within};

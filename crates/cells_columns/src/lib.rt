@@ -1,6 +1,8 @@
 // Cells in memory, column by column: a byte, a column, a cell that is not enlarged, and any.
 // It may use the paper, its laws, the dots, the columns of glyphs and enlarged cells. It knows neither cursors and windows nor where a glyph's
 // columns come from, and it is told whether a glyph is framed.
+#![tactic(auto)]
+
 ghost use Rattle.std.specs.Prelude.{◌≡◌, ◌≤◌, length};
 ghost use Rattle.paper.specs.Strokes.{rect_at};
 ghost use Rattle.laws_memory.specs.Rectangles.{Fits, Within};

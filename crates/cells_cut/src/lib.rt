@@ -1,6 +1,8 @@
 // Cells of which a part is drawn: whether one is whole, and a row of one that is not.
 // It may use the paper, the laws of what is laid into memory, and the columns of glyphs. It knows addresses, and how far apart columns lie, but
 // neither dots nor rectangles.
+#![tactic(auto)]
+
 ghost use Rattle.std.specs.Prelude.{◌≡◌, ◌+◌, ◌*◌, ◌≤◌, ◌<◌, length};
 ghost use Rattle.laws_laid.specs.Laid.{laid};
 ghost use Rattle.glyphs_columns.specs.Columns.{cell_stroke};

@@ -2,6 +2,8 @@
 // It may use the paper, the laws of what is laid into memory, and the columns of glyphs. It knows addresses, and how far apart the columns
 // of a row lie, but neither dots nor rectangles. Mixing is handed down as a number that a caller writes out, so that a loop over columns
 // does not ask for it.
+#![tactic(auto)]
+
 ghost use Rattle.std.specs.Prelude.{◌≡◌, ◌+◌, ◌*◌, ◌≤◌, ◌<◌, length};
 ghost use Rattle.laws_laid.specs.Laid.{laid};
 ghost use Rattle.glyphs_columns.specs.Columns.{mixed_by, row_stroke, whole_of};

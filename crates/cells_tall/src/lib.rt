@@ -1,6 +1,8 @@
 // Cells two rows high, written into memory in place of what stood there, or by exclusive or with it: each column is made once as one number
 // of both its bytes, and stored as often as it is repeated. It may use the paper, the laws of what is laid into memory, and the columns of
 // glyphs. It knows addresses, and how far apart columns lie, but neither dots nor rectangles.
+#![tactic(auto)]
+
 ghost use Rattle.std.specs.Prelude.{◌≡◌, ◌+◌, ◌*◌, ◌≤◌, ◌<◌, length};
 ghost use Rattle.laws_laid.specs.Laid.{piled, stacked};
 ghost use Rattle.glyphs_columns.specs.Columns.{row_stroke, whole_of};

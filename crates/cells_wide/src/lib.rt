@@ -1,6 +1,8 @@
 // Enlarged cells in memory: a whole one by rows whose mixing is written out, a part of one column by column.
 // It may use the paper, the laws of what is laid into memory, the columns of glyphs, the rows of cells and their parts. It knows addresses,
 // and how far apart columns lie, but neither dots nor rectangles.
+#![tactic(auto)]
+
 ghost use Rattle.std.specs.Prelude.{◌≡◌, ◌+◌, ◌*◌, ◌≤◌, ◌<◌, length};
 ghost use Rattle.laws_laid.specs.Laid.{piled};
 ghost use Rattle.glyphs_columns.specs.Columns.{cell_stroke, whole_of};

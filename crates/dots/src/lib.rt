@@ -1,6 +1,8 @@
 // Dots: the memory as bytes at rows·x + y. Rectangles are cleared, and all of it is erased.
 // Each contract gives the whole memory afterwards.
 // It may use the paper, the laws of the memory and the spans' growth, and it knows nothing of the glass, characters, windows or the state.
+#![tactic(auto)]
+
 ghost use Rattle.std.specs.Prelude.{◌≡◌, ◌≤◌, ◌<◌, min};
 ghost use Rattle.paper.specs.Panel.{memory_length, address};
 ghost use Rattle.paper.specs.Strokes.{rect_at, mark_rect};

@@ -1,6 +1,8 @@
 // Dots that are taken from elsewhere: each byte of a rectangle from the one so many columns right of it and rows below.
 // Each contract gives the whole memory afterwards.
 // It may use the paper, the laws of the memory and dots for an address. `pull` is its one call.
+#![tactic(auto)]
+
 ghost use Rattle.std.specs.Prelude.{◌≡◌, ◌+◌, get_or, set};
 ghost use Rattle.paper.specs.Panel.{address};
 ghost use Rattle.paper.specs.Strokes.{rect_at};

@@ -1,6 +1,8 @@
 // Dots that move: the rows of a rectangle up, its columns to the left. Zeros enter behind them.
 // Each contract gives the whole memory afterwards.
 // It may use the paper, the laws of the memory, dots and dots_pull, and it knows nothing of spans, glass, characters, windows or the state.
+#![tactic(auto)]
+
 ghost use Rattle.std.specs.Prelude.{◌≡◌};
 ghost use Rattle.laws_memory.specs.Rectangles.{Fits, Within, scrolled_up, moved_left};
 

@@ -1,5 +1,7 @@
 // Downloads: found by code, and the ones that are drawn. They are lent bytes, 16 places of nine.
 // It may use the paper and its laws; it knows no state and writes nothing.
+#![tactic(auto)]
+
 ghost use Rattle.std.specs.Prelude.{◌≡◌, cond, [], eqb};
 ghost use Rattle.paper.specs.Downloads.{place, is_stored, is_dropped};
 

@@ -1,6 +1,8 @@
 // What a define's download and an erase do to the downloads, and what they are answered: 15, 11, 18 and 19. It knows no state, so that
 // the answers meet before one is built.
 // It may use downloads and downloads_write for the places.
+#![tactic(auto)]
+
 ghost use Rattle.std.specs.Prelude.{◌≡◌};
 ghost use Rattle.downloads_answer.specs.Answers.{noted_if, answer_if, stored_if, erase_answer, erased_if};
 

@@ -1,5 +1,7 @@
 // Downloads written: stored in a place, and erased. They are lent bytes, 16 places of nine.
 // It may use downloads to find a code, the paper and its laws; it knows no state.
+#![tactic(auto)]
+
 ghost use Rattle.std.specs.Prelude.{◌≡◌, ◌≤◌, min};
 ghost use Rattle.paper.specs.Downloads.{places_in, with_place, download_bytes, place_for, put_in, erased, all_erased};
 

@@ -1,5 +1,7 @@
 // What the calls from C share, for any module: the answers, and the record that a call leaves. docs/RECORD.md has the layout.
 // It may use record_write and record_bytes for the record. specs/Face.antt has the calls as C makes them, each a definition.
+#![tactic(auto)]
+
 ghost use Rattle.std.specs.Prelude.{◌≡◌, length};
 ghost use Rattle.record_bytes.specs.Bytes.{record_length};
 ghost use Rattle.face.specs.Face.{state_after, spans_after};
@@ -12,7 +14,7 @@ pub const WRONG_LENGTH: u32 = 100;
 
 // What a feed answers: its number, what the last byte came to, commands carried out, commands answered 11 to 19.
 #[repr(C)]
-#[derive(Drop)]
+#[derive(Clone, Copy)]
 pub struct PanelFed {
     pub answer: u32,
     pub outcome: u32,
@@ -22,7 +24,7 @@ pub struct PanelFed {
 
 // What a refresh answers: its number, and the bytes moved.
 #[repr(C)]
-#[derive(Drop)]
+#[derive(Clone, Copy)]
 pub struct PanelRefreshed {
     pub answer: u32,
     pub moved: usize,
@@ -30,7 +32,7 @@ pub struct PanelRefreshed {
 
 // What a receive answers: its number, the place where the data begin, how many they are, and the place after the telegram.
 #[repr(C)]
-#[derive(Drop)]
+#[derive(Clone, Copy)]
 pub struct PanelReceived {
     pub answer: u32,
     pub first: usize,

@@ -1,6 +1,8 @@
 // Refresh as C makes it, for any usable module of two rows, over the state and its downloads as a record of 259 bytes.
 // It may use calls_glass for the call, record_read, record_bytes and face for the record, numbers for the answer.
 // Its contract is one line: what the call answers and leaves is its definition in face's specs/Face.antt.
+#![tactic(auto)]
+
 ghost use Rattle.std.specs.Prelude.{◌≡◌};
 ghost use Rattle.laws_state.specs.Room.{Usable};
 ghost use Rattle.face.specs.Face.{refreshing, refresh_c};

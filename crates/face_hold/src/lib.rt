@@ -2,6 +2,8 @@
 // Neither call asks anything of its caller.
 // It may use calls_hold for the calls, record_read and face for the record, numbers for the answers.
 // Each contract is one line: what a call answers and leaves is the definition of that call in face's specs/Face.antt.
+#![tactic(auto)]
+
 ghost use Rattle.std.specs.Prelude.{◌≡◌};
 ghost use Rattle.face.specs.Face.{calling, hold_c, release_c};
 

@@ -1,5 +1,7 @@
 // The telegrams of a link as C asks for them: where the data of the first one for an address lie. It knows no state.
 // It may use telegrams for the search, face for the answer's type, numbers for its number.
+#![tactic(auto)]
+
 ghost use Rattle.std.specs.Prelude.{◌≡◌};
 ghost use Rattle.face.specs.Face.{receive_c};
 

@@ -1,6 +1,8 @@
 // Start as C makes it, for any usable module of two rows, over the state and its downloads as a record of 259 bytes.
 // It may use calls_start for the call, record_bytes, record_write and face for the record, numbers for the answer.
 // Its contract is one line: what the call answers and leaves is its definition in face's specs/Face.antt.
+#![tactic(auto)]
+
 ghost use Rattle.std.specs.Prelude.{◌≡◌};
 ghost use Rattle.laws_state.specs.Room.{Usable};
 ghost use Rattle.face.specs.Face.{starting, start_c};

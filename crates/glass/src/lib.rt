@@ -1,6 +1,8 @@
 // Glass: what goes from memory to the glass. The visible columns of each span are copied, and what is copied is counted.
 // Each contract gives the whole glass afterwards.
 // It may use the paper, the laws of the memory, and dots for an address; it knows nothing of characters, windows or the state.
+#![tactic(auto)]
+
 ghost use Rattle.std.specs.Prelude.{◌≡◌, [], ◌∷◌, ℕ, ◌+◌, ◌≤◌, ◌<◌, length, get_or, set};
 ghost use Rattle.paper.specs.Strokes.{shown, shown_all, refreshed};
 ghost use Rattle.laws_memory.specs.Glass.{Shows, copied, copied_from};

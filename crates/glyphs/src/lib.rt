@@ -1,6 +1,8 @@
 // Glyphs: how large a cell is, and where a code's columns stand, in the font or in the downloads.
 // It may use the paper, and the downloads to find one by its code. It reads font and downloads and writes nothing.
 // A glyph is the slice of its columns.
+#![tactic(auto)]
+
 ghost use Rattle.std.specs.Prelude.{◌≡◌, cond, ◌≤◌, ◌<◌, eqb, length};
 ghost use Rattle.paper.specs.Panel.{font_length, font_glyph};
 ghost use Rattle.paper.specs.Downloads.{places_in, own_glyph};
@@ -34,7 +36,7 @@ pub fn cell_width(g: Module, w: u8, style: Style) -> usize
 }
 
 // A cell as the settings ask for it: its blank columns on the left, its style, and how many columns and rows it has.
-#[derive(Drop)]
+#[derive(Clone, Copy)]
 pub struct Cell {
     pub blanks: u8,
     pub style: Style,

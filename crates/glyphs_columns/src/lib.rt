@@ -1,6 +1,8 @@
 // The columns of a glyph's cell in bytes, and what reverse and mixing make of a byte.
 // It may use the paper and the laws of bytes. It reads the glyph's columns that it is lent and writes nothing.
 // A row of a column is fetched, placed, stretched and reversed.
+#![tactic(auto)]
+
 ghost use Rattle.std.specs.Prelude.{◌≡◌, ◌*◌, ◌/◌, ◌^◌, ◌≤◌, ◌<◌};
 ghost use Rattle.paper.specs.Cells.{blanks_left};
 ghost use Rattle.laws_bytes.specs.Bytes.{double, tall_byte, reversed_byte, mixed_byte};
@@ -9,7 +11,7 @@ ghost use Rattle.glyphs_columns.specs.Columns.{fetched_of, mixed_by, blank_right
 use paper::Style;
 
 // A column of a cell repeated downwards: the bytes of its two rows. A cell one row high has the first alone.
-#[derive(Drop)]
+#[derive(Clone, Copy)]
 pub struct Tall {
     pub upper: u8,
     pub lower: u8,
@@ -44,7 +46,7 @@ pub fn fetched(cols: &[u8], blanks: usize, k: usize) -> u8
 }
 
 // How the dots of a glyph's column are placed on a row of memory: so many down, and up again. What they leave is blank.
-#[derive(Drop)]
+#[derive(Clone, Copy)]
 pub struct Lift {
     pub down: u8,
     pub up: u8,

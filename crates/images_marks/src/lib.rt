@@ -1,5 +1,7 @@
 // Marks of images: the rows that a run of an image's bytes has written, each marked once.
 // It may use dots and spans for what is marked, and moves for the spot. It writes no memory, and knows no piece of bytes.
+#![tactic(auto)]
+
 ghost use Rattle.std.specs.Prelude.{◌≡◌, ◌+◌, ◌≤◌, ◌<◌};
 ghost use Rattle.images_marks.specs.Marks.{row_mark, filled_to};
 
@@ -29,7 +31,7 @@ fn mark_row(spans: Spans, v: View, bottom: usize, row: usize, from: usize, to: u
 
 // Where a run of image bytes ended: the spans, the place of the image's next byte, and the place in the piece. The image is whole if
 // the column is its width.
-#[derive(Drop)]
+#[derive(Clone, Copy)]
 pub struct Filled {
     pub spans: Spans,
     pub column: u16,

@@ -1,5 +1,7 @@
 // Places of images: an image's byte stored, and the place of the next.
 // It may use cells_bytes for a byte that is stored. It marks nothing, and knows no piece of bytes.
+#![tactic(auto)]
+
 ghost use Rattle.std.specs.Prelude.{◌≡◌, ◌+◌, ◌≤◌, ◌<◌};
 ghost use Rattle.paper.specs.Strokes.{apply_all};
 ghost use Rattle.paper.specs.Carry.{image_strokes};
@@ -10,7 +12,7 @@ ghost use Rattle.images_places.specs.Places.{place_after, from_cursor};
 use paper::{Module, Style, View};
 
 // The place of an image's byte.
-#[derive(Drop)]
+#[derive(Clone, Copy)]
 pub struct Place {
     pub column: u16,
     pub row: u16,

@@ -2,3 +2,4 @@
 // or change places.
 // specs/ says what is kept, proofs/ shows it; there is no code.
 // It may use the paper and the laws of the memory.
+#![tactic(auto)]

@@ -1,5 +1,7 @@
 // The modules: a panel's figures and rules as one value, and the lengths that follow from it. No other code knows a figure.
 // It uses the paper alone.
+#![tactic(auto)]
+
 ghost use Rattle.std.specs.Prelude.{◌≡◌, ◌≤◌};
 ghost use Rattle.paper.specs.Panel.{panel, memory_length, glass_length, font_length};
 

@@ -1,6 +1,8 @@
 // Moves: what the moves over a view share: where the cursor goes, what memory holds, how the spans grow; and CLR.
 // It may use the dots, their shifts and the spans; it knows nothing of characters, windows, settings or how bytes are read.
 // Each contract says that what was done is what the paper's move of the same name means.
+#![tactic(auto)]
+
 ghost use Rattle.std.specs.Prelude.{◌≡◌, ◌+◌, ◌<◌};
 ghost use Rattle.paper.specs.Strokes.{mark_rect};
 ghost use Rattle.paper.specs.Cells.{range_of, up_stroke};
@@ -12,7 +14,7 @@ ghost use Rattle.moves.specs.Does.{Does, spot};
 use paper::{Module, Rect, Spans, View};
 
 // What a move works on and gives back: the range with the cursor in it, and both rows' spans.
-#[derive(Drop)]
+#[derive(Clone, Copy)]
 pub struct Spot {
     pub view: View,
     pub spans: Spans,

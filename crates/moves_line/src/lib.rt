@@ -1,6 +1,8 @@
 // The move LF over a view: the cursor goes a line of cells down, or the range scrolls up under it.
 // It may use moves and moves_views; it knows nothing of characters, windows, settings or how bytes are read.
 // Each contract says that what was done is what the paper's move of the same name means.
+#![tactic(auto)]
+
 ghost use Rattle.std.specs.Prelude.{◌≤◌};
 ghost use Rattle.paper.specs.Moves.{line_down_up, line_feed_of};
 ghost use Rattle.laws_memory.specs.Rectangles.{Fits};

@@ -1,6 +1,8 @@
 // HT's way in MD3's last cell: the cursor's rows are pushed left.
 // It may use moves for what the moves share, dots and dots_shift; it knows nothing of characters, windows, settings or how bytes are read.
 // Its contract says that what was done is what the paper's move of the same name means.
+#![tactic(auto)]
+
 ghost use Rattle.std.specs.Prelude.{◌+◌, ◌*◌, ◌<◌};
 ghost use Rattle.paper.specs.Moves.{push_left};
 ghost use Rattle.laws_memory.specs.Rectangles.{Fits};

@@ -2,6 +2,8 @@
 // It may use moves and moves_views for what the moves share, and moves_push; it knows nothing of characters, windows, settings or how
 // bytes are read.
 // Each contract says that what was done is what the paper's move of the same name means.
+#![tactic(auto)]
+
 ghost use Rattle.std.specs.Prelude.{◌≡◌, ◌≤◌, ◌<◌};
 ghost use Rattle.paper.specs.Moves.{next_line, next_line_up, ht_of};
 ghost use Rattle.laws_memory.specs.Rectangles.{Fits};

@@ -1,6 +1,8 @@
 // Moves of a view alone: BS, and the line of cells below.
 // It may use moves for a cursor's place; it writes nothing, and knows nothing of characters, windows, settings or how bytes are read.
 // Each contract says that what was done is what the paper's move of the same name means.
+#![tactic(auto)]
+
 ghost use Rattle.std.specs.Prelude.{◌≡◌, ◌≤◌, ◌<◌};
 ghost use Rattle.paper.specs.Moves.{room_below, back_of, line_down};
 

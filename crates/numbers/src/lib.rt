@@ -1,6 +1,8 @@
 // Numbers: document 01's number of each refusal and each outcome, what an outcome counts as, and a 16-bit number of its bytes.
 // It may use the paper alone.
 // Calls, C and the viewer ask here; each contract is the paper's definition of the same name.
+#![tactic(auto)]
+
 ghost use Rattle.std.specs.Prelude.{◌≡◌};
 ghost use Rattle.paper.specs.Reading.{word16};
 ghost use Rattle.paper.specs.Numbers.{refusal_number, outcome_number, carried_by, answered_by};

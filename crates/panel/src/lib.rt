@@ -1,6 +1,8 @@
 // The panel: document 01's five calls, for the 112 by 16 module. No call has a `requires`. `store` are the state's downloads.
 // It uses modules for the module's value, and the calls of calls_start, calls_glass, calls_feed and calls_hold for it.
 // Each call's contract is one line: what it answers and leaves is the paper's definition of that call.
+#![tactic(auto)]
+
 ghost use Rattle.std.specs.Prelude.{◌≡◌};
 ghost use Rattle.paper.specs.Panel.{panel};
 ghost use Rattle.paper.specs.Calls.{start_call, feed_call, hold_call, release_call, refresh_call};

@@ -3,6 +3,8 @@
 // It may use modules for the module's value, and the calls of face_start, face_glass, face_hold and calls_feed for it; for a feed also
 // record_read and face for the record, numbers for the answers; face_link for the telegrams.
 // Each contract is one line: what a call answers and leaves is the definition of that call in face's specs/Face.antt.
+#![tactic(auto)]
+
 ghost use Rattle.std.specs.Prelude.{◌≡◌};
 ghost use Rattle.paper.specs.Panel.{panel};
 ghost use Rattle.face.specs.Face.{starting, start_c, feeding, feed_c, calling, hold_c, release_c, refreshing, refresh_c, receive_c};

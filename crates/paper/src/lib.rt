@@ -1,8 +1,9 @@
 // The paper: the types of document 01 and, in specs/, every rule of it, with the orders of document 02 in force, as a definition.
 // It holds no other code and uses no other crate; every other crate may use it.
+#![tactic(auto)]
 
 // A module: every figure and every rule in which panels differ. All else is asked of it.
-#[derive(Drop)]
+#[derive(Clone, Copy)]
 pub struct Module {
     // the memory's columns, its rows of 8 dots, and how many of the columns are visible
     pub columns: usize,
@@ -28,7 +29,7 @@ pub struct Module {
 }
 
 // How a cell is drawn: reverse 0 or 1, mixing 0 to 3, and the enlargement, 1 to 4 across and 1 to 2 down.
-#[derive(Drop)]
+#[derive(Clone, Copy)]
 pub struct Style {
     pub reverse: u8,
     pub mixing: u8,
@@ -38,7 +39,7 @@ pub struct Style {
 
 // The common settings, each named after its use; `charset`, `codes`, `caret`, `brightness` and `speed` are kept only. `switch` says
 // whether downloads are drawn.
-#[derive(Drop)]
+#[derive(Clone, Copy)]
 pub struct Settings {
     pub charset: u8,
     pub codes: u8,
@@ -52,7 +53,7 @@ pub struct Settings {
 }
 
 // A window's cursor, counted from the window's top left, and its mode, 1 to 3 for MD1 to MD3.
-#[derive(Drop)]
+#[derive(Clone, Copy)]
 pub struct Cursor {
     pub x: u16,
     pub y: u16,
@@ -60,7 +61,7 @@ pub struct Cursor {
 }
 
 // A user window. One that is not defined is all zeros; no defined one is 0 columns wide.
-#[derive(Drop)]
+#[derive(Clone, Copy)]
 pub struct Window {
     pub left: u16,
     pub top: u16,
@@ -70,7 +71,7 @@ pub struct Window {
 }
 
 // The columns of one row written since the last refresh: from `first` to the one before `end`. Nothing is 0 and 0.
-#[derive(Drop)]
+#[derive(Clone, Copy)]
 pub struct Span {
     pub first: u16,
     pub end: u16,
@@ -80,7 +81,7 @@ pub struct Span {
 pub type Spans = [Span; 2];
 
 // The range in which a command works, with the cursor counted from its top left, and the mode.
-#[derive(Drop)]
+#[derive(Clone, Copy)]
 pub struct View {
     pub left: usize,
     pub top: usize,
@@ -92,7 +93,7 @@ pub struct View {
 }
 
 // A rectangle of the memory: its left column and its top row, how many columns it has and how many rows.
-#[derive(Drop)]
+#[derive(Clone, Copy)]
 pub struct Rect {
     pub left: usize,
     pub top: usize,
@@ -101,7 +102,7 @@ pub struct Rect {
 }
 
 // A setting that one byte gives, named by the command that sets it.
-#[derive(Drop)]
+#[derive(Clone, Copy)]
 pub enum Key {
     // 1Bh 52h
     Charset,
@@ -126,7 +127,7 @@ pub enum Key {
 }
 
 // A 16-bit parameter that is awaited, with the parameters before it.
-#[derive(Drop)]
+#[derive(Clone, Copy)]
 pub enum Word {
     CursorX,
     CursorY {
@@ -157,7 +158,7 @@ pub enum Word {
 }
 
 // The codes of a define: its first, the one that it is at, its last.
-#[derive(Drop)]
+#[derive(Clone, Copy)]
 pub struct Batch {
     pub first: u8,
     pub code: u8,
@@ -166,7 +167,7 @@ pub struct Batch {
 
 // A download's columns as they come: how many it has, 5 or 7, how many have come, and their bytes, leftmost first. One that has not
 // come is 0.
-#[derive(Drop)]
+#[derive(Clone, Copy)]
 pub struct Columns {
     pub width: u8,
     pub come: u8,
@@ -180,7 +181,7 @@ pub struct Columns {
 }
 
 // The half-read command: what is awaited, with the parameters gathered so far.
-#[derive(Drop)]
+#[derive(Clone, Copy)]
 pub enum Half {
     // no command is half read
     Nothing,
@@ -257,7 +258,7 @@ pub enum Half {
 }
 
 // A command read whole.
-#[derive(Drop)]
+#[derive(Clone, Copy)]
 pub enum Command {
     Character(u8),
     Back,
@@ -297,7 +298,7 @@ pub enum Command {
 }
 
 // What a byte gives to a half-read command.
-#[derive(Drop)]
+#[derive(Clone, Copy)]
 pub enum Reading {
     // the command is not whole yet
     More(Half),
@@ -328,7 +329,7 @@ pub enum Reading {
 }
 
 // What a byte of the stream came to: the numbers 9 to 19.
-#[derive(Drop)]
+#[derive(Clone, Copy)]
 pub enum Outcome {
     Unfinished,
     Carried,
@@ -344,7 +345,7 @@ pub enum Outcome {
 }
 
 // Why a call was refused: the numbers 1 to 8, 20 and 21, or that it was not.
-#[derive(Drop)]
+#[derive(Clone, Copy)]
 pub enum Refusal {
     Accepted,
     MemoryLength,
@@ -360,7 +361,7 @@ pub enum Refusal {
 }
 
 // Whether a window is held, and what its release puts back.
-#[derive(Drop)]
+#[derive(Clone, Copy)]
 pub enum Hold {
     Free,
     Held {
@@ -372,7 +373,7 @@ pub enum Hold {
 
 // All that a panel knows besides its memory and its downloads, which stand beside it: 144 bytes, lent like the memory. `selected` is
 // 0 for the base window, whose cursor is `base`.
-#[derive(Drop)]
+#[derive(Clone, Copy)]
 pub struct State {
     pub half: Half,
     pub settings: Settings,
@@ -384,14 +385,14 @@ pub struct State {
 }
 
 // What start, hold and release answer.
-#[derive(Drop)]
+#[derive(Clone, Copy)]
 pub struct Answer {
     pub refusal: Refusal,
     pub state: State,
 }
 
 // What a feed answers: commands carried out, commands answered 11 to 19, and what the last byte came to.
-#[derive(Drop)]
+#[derive(Clone, Copy)]
 pub struct Fed {
     pub refusal: Refusal,
     pub state: State,
@@ -401,7 +402,7 @@ pub struct Fed {
 }
 
 // What a refresh answers: the bytes moved.
-#[derive(Drop)]
+#[derive(Clone, Copy)]
 pub struct Refreshed {
     pub refusal: Refusal,
     pub state: State,
@@ -409,7 +410,7 @@ pub struct Refreshed {
 }
 
 // What a received piece has for an address: where the data of its first telegram begin, how many they are, and the place after it.
-#[derive(Drop)]
+#[derive(Clone, Copy)]
 pub struct Received {
     pub refusal: Refusal,
     pub first: usize,

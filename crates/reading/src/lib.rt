@@ -3,6 +3,8 @@
 // what is awaited next.
 // It uses the paper and the numbers, reading_codes and reading_groups for a byte of the code, reading_words for one of a parameter and
 // reading_define for one of a download. `read` is its one call, with an arm for each case of what is half read.
+#![tactic(auto)]
+
 ghost use Rattle.std.specs.Prelude.{◌≡◌, true};
 ghost use Rattle.paper.specs.Bounds.{half_ok};
 ghost use Rattle.paper.specs.Reading.{read_of};

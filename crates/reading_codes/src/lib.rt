@@ -1,6 +1,8 @@
 // What a command's first byte gives, and the byte after 1Bh: document 01, "How bytes are read".
 // There is no state and no memory here, and it uses the paper alone. Each read_ function decides one place in a code; the functions
 // above them say what is awaited next, or that the command is cancelled or unknown.
+#![tactic(auto)]
+
 ghost use Rattle.std.specs.Prelude.{◌≡◌};
 ghost use Rattle.paper.specs.Reading.{more_if, only_if, read_move, read_first, read_escape};
 

@@ -1,6 +1,8 @@
 // What a byte gives to a download that is half read: document 01, "How bytes are read", and order 2's columns.
 // There is no state and no memory here, and it uses the paper alone. The columns come one by one into their places; the last one makes
 // the download whole.
+#![tactic(auto)]
+
 ghost use Rattle.std.specs.Prelude.{◌≡◌, ◌<◌};
 ghost use Rattle.paper.specs.Reading.{no_columns, with_column, read_column};
 

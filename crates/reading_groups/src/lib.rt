@@ -1,6 +1,8 @@
 // What a byte of a command's code gives after 1Fh: document 01, "How bytes are read".
 // There is no state and no memory here. It uses the paper, and reading_codes for what is awaited next. Each function decides one place in
 // a code.
+#![tactic(auto)]
+
 ghost use Rattle.std.specs.Prelude.{◌≡◌};
 ghost use Rattle.paper.specs.Reading.{read_unit, read_group, read_actions, read_images, read_characters, read_windows};
 

@@ -1,5 +1,7 @@
 // What a byte gives to a parameter that takes several bytes, or that decides how a command goes on: document 01, "How bytes are read".
 // There is no state and no memory here. It uses the paper, and reading_codes for what is awaited next.
+#![tactic(auto)]
+
 ghost use Rattle.std.specs.Prelude.{◌≡◌};
 ghost use Rattle.paper.specs.Reading.{between, read_rest, read_window_b, read_word, read_image};
 

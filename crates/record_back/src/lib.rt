@@ -1,5 +1,7 @@
 // The record's half-read part, read back: what is half read, from its case's number and its parameters.
 // It uses the paper, and record_half for the slots; docs/RECORD.md has the numbers.
+#![tactic(auto)]
+
 ghost use Rattle.std.specs.Prelude.{◌≡◌};
 ghost use Rattle.record_half.specs.Slots.{key_of, word_of, half_of};
 

@@ -1,5 +1,7 @@
 // The bytes of a state's parts, for C, and how long each is and where it stands. docs/RECORD.md has the layout.
 // It uses the paper, and record_half for what is half read.
+#![tactic(auto)]
+
 ghost use Rattle.std.specs.Prelude.{◌≡◌};
 ghost use Rattle.record_half.specs.Slots.{half_slots};
 ghost use Rattle.record_bytes.specs.Bytes.{settings_bytes, window_bytes, base_bytes, hold_bytes, slot_bytes, spans_bytes};

@@ -1,5 +1,7 @@
 // The record, its half-read part: what is half read, laid flat as a case's number and its parameters. No case of an enum crosses to C.
 // It uses the paper, and reading_define for columns of which none has come; docs/RECORD.md has the numbers.
+#![tactic(auto)]
+
 ghost use Rattle.std.specs.Prelude.{◌≡◌};
 ghost use Rattle.record_half.specs.Slots.{words, bytes, key_number, word_slots, note_number, batch_slots, half_slots};
 
@@ -7,7 +9,7 @@ use paper::{Batch, Columns, Half, Key, Word};
 
 // The case's number, and its parameters from the left: bytes in a, b, c, d and 16-bit ones in p, q, r, s; and the columns of a download
 // as they come. What a case does not use is 0.
-#[derive(Drop)]
+#[derive(Clone, Copy)]
 pub struct Slots {
     pub case: u8,
     pub a: u8,

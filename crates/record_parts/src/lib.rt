@@ -1,5 +1,7 @@
 // The parts of a state's bytes that a call tests or hands on: settings, what is held, what is half read. docs/RECORD.md has the layout.
 // It uses the paper, numbers for a 16-bit number, record_half for what is half read, and record_bytes for the lengths.
+#![tactic(auto)]
+
 ghost use Rattle.std.specs.Prelude.{◌≡◌, ◌+◌, ◌≤◌, length};
 ghost use Rattle.record_bytes.specs.Bytes.{settings_length, hold_length, columns_length, half_length};
 ghost use Rattle.record_parts.specs.Parts.{word_at, settings_at, hold_at, columns_at, slots_at};

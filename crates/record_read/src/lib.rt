@@ -2,6 +2,8 @@
 // the layout.
 // It uses the paper, record_parts and record_state for what the bytes give, record_half and record_back for what is half read, and
 // record_bytes, to see whether the bytes are those of a state.
+#![tactic(auto)]
+
 ghost use Rattle.std.specs.Prelude.{◌≡◌, true, ◌+◌, ◌≤◌, length};
 ghost use Rattle.paper.specs.Panel.{bytes_from};
 ghost use Rattle.record_bytes.specs.Bytes.{state_length, encoded};

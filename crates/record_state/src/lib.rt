@@ -1,5 +1,7 @@
 // The state that a record's bytes give, read by their places. docs/RECORD.md has the layout.
 // It uses the paper, record_parts for a 16-bit number and the settings, and record_bytes for the places.
+#![tactic(auto)]
+
 ghost use Rattle.std.specs.Prelude.{◌≡◌, ◌+◌, ◌≤◌, length};
 ghost use Rattle.record_bytes.specs.Bytes.{cursor_length, window_length, span_length, state_length};
 ghost use Rattle.record_parts.specs.Parts.{cursor_at, window_from, span_at, decoded_with};

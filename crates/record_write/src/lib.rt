@@ -1,5 +1,7 @@
 // The record written: a state as 115 bytes, for C. In the record the downloads follow, as their own bytes. docs/RECORD.md has the layout.
 // It uses the paper, and record_bytes for the bytes of each part and their places.
+#![tactic(auto)]
+
 ghost use Rattle.std.specs.Prelude.{◌≡◌, ◌+◌, ◌≤◌, length};
 ghost use Rattle.record_bytes.specs.Bytes.{at_first, at_base, state_length, windows_bytes, spans_into, tail_bytes, encoded};
 ghost use Rattle.record_write.specs.Parts.{Put};

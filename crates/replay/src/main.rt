@@ -1,5 +1,7 @@
 // Plays calls stored as bytes (docs/SCRIPTS.md, "Calls as bytes") on the C face, and holds each to what is stored with it. Standard
 // input has the entries. It writes how many calls were played, and what the last of them differs in, if it does.
+#![tactic(auto)]
+
 mod calls;
 
 ghost use Rattle.std.specs.Prelude.{◌≡◌, length};

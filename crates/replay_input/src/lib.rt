@@ -1,5 +1,7 @@
 // The stored bytes, where the playing of them stands, whether a call gives and leaves what is stored, and that in words. What lies past
 // their end is 0. It knows no panel.
+#![tactic(auto)]
+
 ghost use Rattle.std.specs.Prelude.{◌^◌, ◌<◌, ◌≤◌, length};
 
 use libc::STDOUT_FILENO;
@@ -8,7 +10,7 @@ use libc::STDOUT_FILENO;
 
 // The next byte, the number read last, the calls made, the lengths that are lent, the font's place, and what of the last call
 // differs: 1 its answer, 2 its outcome, 3 a count, 4 memory, 5 glass, 6 record, 7 a place; 0 nothing.
-#[derive(Drop)]
+#[derive(Clone, Copy)]
 pub struct Run {
     pub at: usize,
     pub n: u64,

@@ -2,6 +2,8 @@
 // It may use runs_line for those of one line, text for a character that wraps, text_cells for what is drawn, moves and moves_push for the
 // cursor and what is marked. It knows no state, so that the compiler need not lay one down for each byte.
 // Each contract says that the run is the fold of its single bytes. The downloads lent to it are those in force.
+#![tactic(auto)]
+
 ghost use Rattle.std.specs.Prelude.{◌+◌, ◌*◌, ◌^◌, ◌≤◌, ◌<◌, ◌≡◌, length, get_or};
 ghost use Rattle.paper.specs.Downloads.{faces};
 ghost use Rattle.paper.specs.Cells.{cell_width, cell_height};

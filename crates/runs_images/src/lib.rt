@@ -2,6 +2,8 @@
 // It may use images_places for a byte, images_marks for what is marked, and moves for the spot. It knows no state, so that the compiler
 // need not lay one down for each byte, and what a run has written is marked once for each row.
 // The contract says that the run is the fold of its single bytes.
+#![tactic(auto)]
+
 ghost use Rattle.std.specs.Prelude.{◌≤◌, ◌<◌, length};
 ghost use Rattle.laws_memory.specs.Rectangles.{Fits};
 ghost use Rattle.laws_state.specs.Room.{Usable, InMemory};

@@ -2,6 +2,8 @@
 // It may use text_cells, glyphs and cells for what is drawn, moves for the cursor and what is marked. It knows no state, so that the
 // compiler need not lay one down for each byte, and what a line has written is marked once.
 // Its contract says that the line is the fold of its single bytes. The downloads lent to it are those in force.
+#![tactic(auto)]
+
 ghost use Rattle.std.specs.Prelude.{◌≡◌, ◌&&◌, ◌+◌, ◌*◌, ◌≤◌, ◌<◌, length, get_or, leb};
 ghost use Rattle.paper.specs.Panel.{font_length};
 ghost use Rattle.paper.specs.Downloads.{faces, glyph_of};
@@ -16,7 +18,7 @@ use moves::Spot;
 use paper::{Module, Rect};
 
 // Where a run of characters ended: the spot, and the place after its last byte.
-#[derive(Drop)]
+#[derive(Clone, Copy)]
 pub struct Drawn {
     pub spot: Spot,
     pub at: usize,

@@ -1,6 +1,8 @@
 // Spans: a row's span grows to include a written column, and both rows' spans grow by a written rectangle: `mark`.
 // The span is lent by `&mut` to a thin function over one by value; `mark` grows its spans by `grown_by`, whose parameters are plain.
 // It may use the paper and the laws of the memory.
+#![tactic(auto)]
+
 ghost use Rattle.std.specs.Prelude.{◌≡◌, ◌+◌, ◌<◌, min, max};
 ghost use Rattle.paper.specs.Strokes.{grown, grown_by, mark_rect};
 

@@ -2,6 +2,8 @@
 // It may use the paper and state_settings, and it knows nothing of memory or of how bytes are read. The current window's cursor and its
 // range are state_views'.
 // Each contract is the paper's definition of the same name.
+#![tactic(auto)]
+
 ghost use Rattle.std.specs.Prelude.{◌≡◌, ◌-◌, ◌≤◌, set};
 ghost use Rattle.paper.specs.Strokes.{no_spans};
 ghost use Rattle.paper.specs.Settings.{top_left, no_window, initial_state, new_window, defined, cancelled};

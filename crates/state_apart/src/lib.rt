@@ -1,5 +1,7 @@
 // The state taken apart and put together again, for the compiler's sake.
 // It may use paper alone. Its contract says that the state is the same.
+#![tactic(auto)]
+
 ghost use Rattle.std.specs.Prelude.{◌≡◌};
 
 use paper::{Hold, Settings, State};

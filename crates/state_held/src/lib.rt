@@ -1,4 +1,6 @@
 // What a hold makes of a state, and its release. It uses the paper alone: what is refused is for the calls to say.
+#![tactic(auto)]
+
 ghost use Rattle.std.specs.Prelude.{◌≡◌};
 ghost use Rattle.paper.specs.Calls.{held_by, put_back};
 

@@ -1,5 +1,7 @@
 // Settings: the initial ones, and what a command makes of them.
 // It uses the paper alone. Each contract is the paper's definition of the same name.
+#![tactic(auto)]
+
 ghost use Rattle.std.specs.Prelude.{◌≡◌};
 ghost use Rattle.paper.specs.Settings.{initial_settings, enlarged, with_setting};
 ghost use Rattle.paper.specs.Carry.{not_carried_value, is_write};

@@ -1,6 +1,8 @@
 // The current window's cursor, and the range in which a command works: read from the state, and put back into it.
 // It may use the paper, and state to replace a window; it knows nothing of memory or of how bytes are read.
 // Each contract is the paper's definition of the same name.
+#![tactic(auto)]
+
 ghost use Rattle.std.specs.Prelude.{◌≡◌, ◌+◌, ◌≤◌, ◌<◌};
 ghost use Rattle.paper.specs.Settings.{window_at, cursor_of, at_cursor, in_mode, inside_window, base_view, window_view, view_of, with_view};
 

@@ -2,6 +2,8 @@
 // It may use moves, moves_views, moves_line and moves_tab for the moves. It knows no state, so that the compiler need not lay one down for
 // each command.
 // Each contract says what the paper's definitions give.
+#![tactic(auto)]
+
 ghost use Rattle.std.specs.Prelude.{◌≡◌, ◌<◌, length};
 ghost use Rattle.paper.specs.Reading.{between};
 ghost use Rattle.laws_memory.specs.Rectangles.{Fits};

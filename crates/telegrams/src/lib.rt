@@ -1,5 +1,7 @@
 // Addressed telegrams, receiving (document 02, order 4): what a received piece has for an address, handed back as the caller's own bytes.
 // It uses the paper, telegrams_good for the places of good ones, and numbers for the answer.
+#![tactic(auto)]
+
 ghost use Rattle.std.specs.Prelude.{◌≡◌, true, ◌||◌, ◌+◌, ◌≤◌, eqb, length};
 ghost use Rattle.paper.specs.Telegrams.{good, found_at, nothing, receive_call, OwnPart, Receives};
 

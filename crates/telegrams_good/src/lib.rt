@@ -1,5 +1,7 @@
 // Good telegrams in a received piece (document 02, order 4): the first place from which one can be read, whoever's.
 // It uses the paper alone.
+#![tactic(auto)]
+
 ghost use Rattle.std.specs.Prelude.{◌≡◌, ◌<◌, length};
 ghost use Rattle.telegrams_good.specs.Frames.{Frames};
 ghost use Rattle.paper.specs.Telegrams.{framed, first_good};

@@ -2,6 +2,8 @@
 // It may use text_tab for what is drawn, moves_tab for HT alone; it knows nothing of windows, settings or how bytes are read.
 // The downloads lent to it are those in force: none where the switch is off.
 // Its contract says that what was done is what the paper's definition of the same name means.
+#![tactic(auto)]
+
 ghost use Rattle.paper.specs.Downloads.{faces};
 ghost use Rattle.paper.specs.Moves.{character_of};
 ghost use Rattle.laws_memory.specs.Rectangles.{Fits};

@@ -1,6 +1,8 @@
 // Cells of text: what of a cell at the cursor lies in the range, and the cell of a code that may be a download.
 // It may use dots, glyphs, cells and cells_any; it moves no cursor and marks nothing.
 // The downloads lent to it are those in force: none where the switch is off.
+#![tactic(auto)]
+
 ghost use Rattle.std.specs.Prelude.{◌≡◌, ◌+◌, ◌<◌, ◌≤◌, length};
 ghost use Rattle.paper.specs.Panel.{font_length};
 ghost use Rattle.paper.specs.Downloads.{faces, glyph_of};

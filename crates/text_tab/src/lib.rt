@@ -2,6 +2,8 @@
 // It may use text_cells and cells_bytes for what is drawn, moves and moves_tab for the cursor; it does not ask whether the cell fits.
 // The downloads lent to it are those in force: none where the switch is off.
 // Each contract says that what was done is what the paper's definition of the same name means.
+#![tactic(auto)]
+
 ghost use Rattle.paper.specs.Downloads.{faces};
 ghost use Rattle.paper.specs.Moves.{draw_tab, blank_tab};
 ghost use Rattle.laws_memory.specs.Rectangles.{Fits};

@@ -2,6 +2,8 @@
 // It may use turns_light for which it is, turns_stretch, turns_image and turns_command for each, state_apart for the state that the loop
 // begins with.
 // Its contract says that the whole piece is fed as its bytes are one by one.
+#![tactic(auto)]
+
 ghost use Rattle.std.specs.Prelude.{◌≡◌, [], length};
 ghost use Rattle.paper.specs.Panel.{font_length};
 ghost use Rattle.paper.specs.Calls.{run, fed_nothing};

@@ -1,6 +1,8 @@
 // A turn of a command's bytes: what they complete, carried out and counted.
 // It may use turns_gather for what bytes complete, carry for what that does, numbers for what it counts as. It alone counts what
 // commands came to. Its contract, as that of every turn, says that feeding the bytes one by one comes to the same.
+#![tactic(auto)]
+
 ghost use Rattle.std.specs.Prelude.{◌≡◌, false};
 ghost use Rattle.turns_half.specs.Halves.{is_image};
 ghost use Rattle.turns_light.specs.Turns.{light_at, Due, Turned};

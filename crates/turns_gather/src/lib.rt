@@ -2,6 +2,8 @@
 // It may use reading for what a byte completes, turns_half for where an image's data begins. It knows no state.
 // Its contract says that what they are read as is what they are read as one by one, and that it is nothing that a light turn or an
 // image's takes.
+#![tactic(auto)]
+
 ghost use Rattle.std.specs.Prelude.{◌≡◌, true, false, ◌<◌, ◌≤◌, length, drop};
 ghost use Rattle.paper.specs.Bounds.{half_ok};
 ghost use Rattle.carry_command.specs.Heavy.{heavy};
@@ -11,7 +13,7 @@ ghost use Rattle.turns_light.specs.Turns.{light_start, Gathers};
 use paper::{Half, Module, Reading};
 
 // What the bytes of a command came to: what the last of them gave, and the place after it.
-#[derive(Drop)]
+#[derive(Clone, Copy)]
 pub struct Gathered {
     pub reading: Reading,
     pub at: usize,

@@ -1,5 +1,7 @@
 // What a turn asks of what is half read: whether it is an image's data.
 // It may use the paper's types alone. Its laws say what a match on what is half read learns.
+#![tactic(auto)]
+
 ghost use Rattle.std.specs.Prelude.{◌≡◌};
 ghost use Rattle.turns_half.specs.Halves.{is_image};
 

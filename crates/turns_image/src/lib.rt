@@ -1,6 +1,8 @@
 // A turn of an image's bytes: as many as follow each other.
 // It may use runs_images for what they do, carry_dots for the state's spot. It reads and carries out no command.
 // Its contract, as that of every turn, says that feeding the bytes one by one comes to the same.
+#![tactic(auto)]
+
 ghost use Rattle.std.specs.Prelude.{◌≡◌, List, ℕ};
 ghost use Rattle.turns_light.specs.Turns.{Due, Turned};
 

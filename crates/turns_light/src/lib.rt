@@ -1,6 +1,8 @@
 // Light turns of the loop over a piece: whether what stands there is carried out without a state; and what every turn gives and owes.
 // It may use strides for what is light, carry_state and carry_dots for whether a cell has room.
 // The contract of every turn (specs/Turns) says that feeding the bytes one by one comes to the same.
+#![tactic(auto)]
+
 ghost use Rattle.std.specs.Prelude.{◌≡◌, ◌<◌, ◌≤◌, length};
 ghost use Rattle.turns_half.specs.Halves.{is_nothing};
 ghost use Rattle.turns_light.specs.Turns.{light_at};
@@ -8,7 +10,7 @@ ghost use Rattle.turns_light.specs.Turns.{light_at};
 use paper::{Fed, Half, Module, State};
 
 // A turn of the loop over a piece: what has been fed, and the place of the next byte.
-#[derive(Drop)]
+#[derive(Clone, Copy)]
 pub struct Turn {
     pub fed: Fed,
     pub at: usize,

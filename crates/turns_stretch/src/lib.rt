@@ -1,6 +1,8 @@
 // A light turn of the loop over a piece: characters, moves, and reverse and mixing, as many as follow each other.
 // It may use runs and strides for what they do, downloads for those in force, carry_dots for the state's spot. It reads and carries
 // out no command. Its contract, as that of every turn, says that feeding the bytes one by one comes to the same.
+#![tactic(auto)]
+
 ghost use Rattle.std.specs.Prelude.{◌≡◌, ◌+◌, ◌<◌, ◌≤◌};
 ghost use Rattle.turns_light.specs.Turns.{Light, Due, Turned};
 ghost use Rattle.turns_stretch.specs.Desk.{on_desk, turned_to};

@@ -1,5 +1,7 @@
 // The dots of the glass, as a terminal's characters and as a PBM file's bytes have them.
 // It uses the paper alone. A dot at a place is the paper's dot of the glass there.
+#![tactic(auto)]
+
 ghost use Rattle.std.specs.Prelude.{◌≡◌, ◌≤◌, ◌<◌, length};
 ghost use Rattle.paper.specs.Panel.{panel, lit};
 ghost use Rattle.view_dots.specs.Picture.{glass_dot, block_of, pbm_byte};

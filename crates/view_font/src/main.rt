@@ -1,5 +1,7 @@
 // Turns a font's text (fonts/panel.txt says how it is written) into the 1,120 bytes that a feed takes.
 // Reads the text on standard input and writes the bytes on standard output; or says on standard error which line is wrong.
+#![tactic(auto)]
+
 mod head;
 mod store;
 
@@ -9,7 +11,7 @@ use libc::{STDERR_FILENO, STDIN_FILENO, STDOUT_FILENO};
 use store::PLACES;
 
 // What is wrong with a line.
-#[derive(Drop)]
+#[derive(Clone, Copy)]
 enum Flaw {
     None,
     BadCode,
@@ -20,7 +22,7 @@ enum Flaw {
 
 // Where a text's reading stands: the place of the picture that is being read and how many of its lines have come, 7 where
 // none is being read; and what is wrong.
-#[derive(Drop)]
+#[derive(Clone, Copy)]
 struct Reader {
     place: usize,
     rows: usize,
@@ -124,7 +126,7 @@ fn without_return(text: &[u8], at: usize, end: usize) -> usize
 }
 
 // What is wrong with a text, and in which line.
-#[derive(Drop)]
+#[derive(Clone, Copy)]
 struct Verdict {
     line: u64,
     flaw: Flaw,

@@ -1,5 +1,7 @@
 // Writes a glass: drawn with half blocks, or as a PBM file, as each of the arguments asks. Standard input has its 224 bytes and then
 // the note that is written below it, at most 256 bytes.
+#![tactic(auto)]
+
 ghost use Rattle.std.specs.Prelude.{◌≡◌, length};
 
 use libc::{STDIN_FILENO, STDOUT_FILENO};

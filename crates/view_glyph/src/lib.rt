@@ -1,4 +1,6 @@
 // A picture of seven lines of five characters, one after the other, as the five bytes of its columns. It uses the paper alone.
+#![tactic(auto)]
+
 ghost use Rattle.std.specs.Prelude.{◌≡◌, ◌≤◌, ◌<◌, eqb, length, get_or};
 ghost use Rattle.paper.specs.Panel.{lit};
 ghost use Rattle.view_glyph.specs.Glyph.{column_of};

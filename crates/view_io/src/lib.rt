@@ -1,5 +1,7 @@
 // What the viewer's programs share: the font and then a stream on standard input, or a glass; and complaints on standard error. A
 // program that complains writes nothing else. It uses the kit's input and output.
+#![tactic(auto)]
+
 ghost use Rattle.std.specs.Prelude.{◌≡◌, length};
 
 use libc::{STDERR_FILENO, STDIN_FILENO};
@@ -36,7 +38,7 @@ pub fn room() -> [u8; 1048577]
 }
 
 // What came after the font: how many bytes, and whether they are not too many.
-#[derive(Drop)]
+#[derive(Clone, Copy)]
 pub struct Input {
     pub ok: bool,
     pub bytes: usize,

@@ -1,5 +1,7 @@
 // What a technician reads of a command: its kind, by its first bytes as document 01 lists them under "How bytes are read", and
 // its outcome's number in words. Names are of one width, filled up with blanks. It uses nothing.
+#![tactic(auto)]
+
 mod groups;
 mod outcomes;
 

@@ -1,6 +1,8 @@
 // The lines of a trace, each put into a lent buffer. A command's: its place, its bytes, its kind, the number and words of its outcome, and
 // the current window with its cursor. A telegram's, or that of bytes that are no telegram's: place, bytes and kind in the same columns, and
 // what was done with them. It uses the paper, text put into a buffer, the kinds, and state_views for the cursor.
+#![tactic(auto)]
+
 use paper::{Cursor, Outcome, State};
 
 // Blanks up to a column.

@@ -1,6 +1,8 @@
 // An input of the viewer, one stream or a link of several panels, and the parts of it that a trace feeds: a stream is one part, a link has
 // one for each telegram to the address. The lines of what a link has between them are written here. It uses telegrams to find them, and
 // view_line for the lines.
+#![tactic(auto)]
+
 ghost use Rattle.std.specs.Prelude.{◌≡◌, true, ◌+◌, ◌<◌, ◌≤◌, length};
 ghost use Rattle.paper.specs.Telegrams.{good};
 
@@ -8,14 +10,14 @@ use libc::STDOUT_FILENO;
 use paper::Received;
 
 // How the input is read: as one stream, or as a link at an address.
-#[derive(Drop)]
+#[derive(Clone, Copy)]
 pub struct Way {
     pub is_link: bool,
     pub address: usize,
 }
 
 // The bytes from `first` to before `end` are fed, and the next part is looked for from `after` on.
-#[derive(Drop)]
+#[derive(Clone, Copy)]
 pub struct Part {
     pub first: usize,
     pub end: usize,

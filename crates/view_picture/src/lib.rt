@@ -1,5 +1,7 @@
 // The glass as a picture: half-block characters for a terminal, or a PBM file, each put into a lent buffer.
 // It uses view_dots for the dots, and text put into a buffer.
+#![tactic(auto)]
+
 ghost use Rattle.std.specs.Prelude.{◌≡◌, ◌<◌, length};
 
 const COLUMNS: usize = 112;

@@ -1,5 +1,7 @@
 // The glass of a recorded stream or link, 224 bytes, and a line of counts. The glass is what one refresh brings after the stream, or the
 // link's telegrams for the address, were fed to a fresh panel. It uses the panel's calls, and telegrams for a link's.
+#![tactic(auto)]
+
 mod link;
 
 ghost use Rattle.paper.specs.Panel.{panel};
@@ -11,7 +13,7 @@ use view_parts::Way;
 
 // What became of a stream or a link: the link's telegrams that were fed, commands carried out, those answered 11 to 19, bytes moved, and
 // whether a command is half read.
-#[derive(Drop)]
+#[derive(Clone, Copy)]
 struct Counts {
     telegrams: usize,
     carried: usize,

@@ -6,7 +6,7 @@ ghost use Rattle.paper.specs.Calls.{is_accepted};
 use paper::{Received, State};
 
 // What became of the telegrams: the panel's state, how many they were, commands carried out, and those answered 11 to 19.
-#[derive(Drop)]
+#[derive(Clone, Copy)]
 pub struct Taken {
     pub state: State,
     pub telegrams: usize,

@@ -1,11 +1,13 @@
 // Writes what becomes of a recorded stream, as the arguments ask, one after the other: `show` its glass and its counts, `trace` a line for
 // each command. A number is an address: from there on the input is a link of several panels, read at this address.
 // Standard input has the font's 1,120 bytes and then the stream or link.
+#![tactic(auto)]
+
 use view_parts::Way;
 
 // What was read of the arguments so far: how the input is read from here on, and whether one was complained of, behind which nothing
 // is written.
-#[derive(Drop)]
+#[derive(Clone, Copy)]
 struct Asked {
     way: Way,
     wrong: bool,

@@ -1,5 +1,7 @@
 // Text and numbers, each put into a lent buffer, a part of a buffer, and a number read from its digits. Every call that puts takes the
 // place where to put and answers the place after it; what does not fit in the buffer is dropped. It uses nothing.
+#![tactic(auto)]
+
 ghost use Rattle.std.specs.Prelude.{◌<◌, ◌≤◌};
 
 // The bytes from a to before e; none if they do not lie in the buffer.

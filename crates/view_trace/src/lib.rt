@@ -2,6 +2,8 @@
 // outcome, and the current window with its cursor after it. They are fed to a fresh panel byte by byte, part by part: a stream is one
 // part from its first byte to its end, a link has a part for each telegram to the address. A command may go on in the next part, so its
 // bytes are kept beside. One that is half read at the end has a line too, with 9. It uses the panel's calls, view_parts and view_line.
+#![tactic(auto)]
+
 ghost use Rattle.std.specs.Prelude.{◌≤◌, length};
 
 use libc::STDOUT_FILENO;
@@ -9,7 +11,7 @@ use paper::{Outcome, State};
 use view_parts::Way;
 
 // The panel's state, and of the command that is half read how many bytes are kept, and the place of its first.
-#[derive(Drop)]
+#[derive(Clone, Copy)]
 struct Running {
     state: State,
     kept: usize,
