@@ -1,0 +1,53 @@
+-- `is_known` meets its contract: an arm for each setting. Assumes nothing.
+use Rattle.paper.specs.Reading.{is_known}
+use Rattle.accept_words.proofs.is_known.Goals as goal
+
+pub returns-in-Charset : goal.returns-in-Charset
+unfolding is_known
+returns-in-Charset c =
+    rw c.in-Charset.is
+
+pub returns-in-Codes : goal.returns-in-Codes
+unfolding is_known
+returns-in-Codes c =
+    rw c.in-Codes.is
+
+pub returns-in-Caret : goal.returns-in-Caret
+unfolding is_known
+returns-in-Caret c =
+    rw c.in-Caret.is
+
+pub returns-in-Brightness : goal.returns-in-Brightness
+unfolding is_known
+returns-in-Brightness c =
+    rw c.in-Brightness.is
+
+pub returns-in-Reverse : goal.returns-in-Reverse
+unfolding is_known
+returns-in-Reverse c =
+    rw c.in-Reverse.is
+
+pub returns-in-Speed : goal.returns-in-Speed
+unfolding is_known
+returns-in-Speed c =
+    rw c.in-Speed.is
+
+pub returns-in-Mixing : goal.returns-in-Mixing
+unfolding is_known
+returns-in-Mixing c =
+    rw c.in-Mixing.is
+
+pub returns-in-Width : goal.returns-in-Width
+unfolding is_known
+returns-in-Width c =
+    rw c.in-Width.is
+
+pub returns-in-Write : goal.returns-in-Write
+unfolding is_known
+returns-in-Write c =
+    rw c.in-Write.is
+
+pub returns-in-Switch : goal.returns-in-Switch
+unfolding is_known
+returns-in-Switch c =
+    rw c.in-Switch.is

@@ -1,0 +1,11 @@
+-- `glyphs_columns::framed_on` meets its contract, by its test. Assumes nothing.
+use borrow.Author.Tests.{eq-eqb, ne_eqb}
+use Rattle.glyphs_columns.proofs.framed_on.Goals as goal
+
+pub returns-then-row-eq0 : goal.returns-then-row-eq0
+returns-then-row-eq0 c =
+    rw (eq-eqb _ _ c.if-row-eq0.true)
+
+pub returns : goal.returns
+returns c =
+    rw (ne_eqb _ _ c.if-row-eq0.false)
