@@ -1,0 +1,7 @@
+-- `moves::marked` meets its contract. Assumes nothing.
+use borrow.Author.Rules.{rules}
+use Rattle.moves.proofs.marked.Goals as goal
+
+pub returns : goal.returns
+returns c =
+    rw c.mark.ensures
