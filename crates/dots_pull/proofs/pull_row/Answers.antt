@@ -10,12 +10,6 @@ use Rattle.laws_memory.proofs.Rects.{rect_none}
 use Rattle.laws_memory.proofs.Pulls.{pull_row_turn}
 use Rattle.dots_pull.proofs.pull_row.Goals as goal
 
--- the memory with so many columns taken
-abbrev columns : goal.Start → ℕ → List ℕ
-columns start n =
-    let a = start.args in
-    pulled a.g (rect_at a.left a.y n 1) a.right a.down a.mem.now
-
 pub loop-k-init : goal.loop-k-init
 unfolding pulled
 loop-k-init c =
@@ -32,7 +26,7 @@ loop-k-preserved c =
       omega arith,
       head.invariant.1,
       omega (arith, one.auto.mem, two.auto.mem),
-      second ∙ ap (columns c) (omega arith),
+      second ∙ ap (λ (n : ℕ). pulled c.args.g (rect_at c.args.left c.args.y n 1) c.args.right c.args.down c.args.mem.now) (omega arith),
     )
 
 -- an odd column is left, and taken after the loop
@@ -42,9 +36,9 @@ returns-then-width-eq1 c =
     let one = c.pull_one-then-width-eq1 in
     let last : c.args.width - 1 ≡ 2 * head.k = omega arith in
     pull_row_turn _ _ c.requires.1 _ _ _ _ _ _ _ _ c.requires.0 (omega arith) head.invariant.3 head.invariant.2 (rw last at one.ensures)
-    ∙ ap (columns c) (omega arith)
+    ∙ ap (λ (n : ℕ). pulled c.args.g (rect_at c.args.left c.args.y n 1) c.args.right c.args.down c.args.mem.now) (omega arith)
 
 pub returns-else-width-eq1 : goal.returns-else-width-eq1
 returns-else-width-eq1 c =
     let head = c.loop-k in
-    head.invariant.3 ∙ ap (columns c) (omega arith)
+    head.invariant.3 ∙ ap (λ (n : ℕ). pulled c.args.g (rect_at c.args.left c.args.y n 1) c.args.right c.args.down c.args.mem.now) (omega arith)

@@ -6,7 +6,9 @@ use borrow.Author.Rules.{rules}
 use native.Mathlib.Omega.{arith}
 use lib.ListN.{length, get_or}
 use Rattle.paper.specs.Panel.{address, glass_length}
-use Rattle.paper.specs.Strokes.{rect_at, rect_map}
+use Rattle.paper.specs.declared.Module.{Module}
+use Rattle.paper.specs.declared.Span.{Span}
+use Rattle.paper.specs.Strokes.{rect_at, rect_map, shown}
 use Rattle.laws_memory.specs.Glass.{copied}
 use Rattle.laws_memory.proofs.Addresses.{address-lt}
 use Rattle.laws_memory.proofs.Rects.{rect_none, row_turn, row_end}
@@ -14,16 +16,10 @@ use Rattle.laws_memory.proofs.Glass.{shown-lt}
 use Rattle.glass.proofs.copy_row.Goals as goal
 
 -- the column of a turn is visible, so its place is on the glass
-abbrev visible : goal.In-loop-j → Type 0
-visible c =
-    let x = c.args.p.first + c.loop-j.j in
-    (x < c.args.g.visible) × (address c.args.g x c.args.y < glass_length c.args.g)
-
-visible : (c : goal.In-loop-j) → visible c
-visible c =
-    let x = c.args.p.first + c.loop-j.j in
-    let seen = shown-lt c.args.g c.args.p c.loop-j.j (omega arith) in
-    (seen, address-lt c.args.g x c.args.y c.requires.0 c.args.g.visible seen)
+visible : (g : Module) (p : Span) (y j : ℕ) → j < shown g p → y < g.rows
+    → (p.first + j < g.visible) × (address g (p.first + j) y < glass_length g)
+visible g p y j h hy =
+    let seen = shown-lt g p j h in (seen, address-lt g (p.first + j) y hy g.visible seen)
 
 pub loop-j-init : goal.loop-j-init
 loop-j-init c =
@@ -31,20 +27,20 @@ loop-j-init c =
 
 pub overflow_add-first : goal.overflow_add-first
 overflow_add-first c =
-    omega (arith, visible c)
+    let seen = visible c.args.g c.args.p c.args.y c.loop-j.j (omega arith) c.requires.0 in omega arith
 
 pub at-a-requires : goal.at-a-requires
 at-a-requires c =
-    omega (arith, visible c)
+    let seen = visible c.args.g c.args.p c.args.y c.loop-j.j (omega arith) c.requires.0 in omega arith
 
 pub copy_byte-moved-requires : goal.copy_byte-moved-requires
 copy_byte-moved-requires c =
-    omega (arith, visible c)
+    let seen = visible c.args.g c.args.p c.args.y c.loop-j.j (omega arith) c.requires.0 in omega arith
 
 pub loop-j-preserved : goal.loop-j-preserved
 loop-j-preserved c =
     let head = c.loop-j in
-    let seen = visible c in
+    let seen = visible c.args.g c.args.p c.args.y c.loop-j.j (omega arith) c.requires.0 in
     let place = c.at-a in
     let copying = c.copy_byte-moved in (
       omega arith,

@@ -10,23 +10,14 @@ use Rattle.paper.specs.Strokes.{no_span, refreshed, shown_all}
 use Rattle.laws_memory.proofs.Glass.{refreshed_none, refreshed-turn, shown-turn, shown-le, visible_small}
 use Rattle.glass.proofs.copy_rows.Goals as goal
 
--- what a row adds to the count
-small : (c : goal.After-slice_known-in-loop-y-1) → c.copy_row-moved.result ≤ 65536
-small c =
-    let head = c.loop-y in
-    omega (
-      arith,
-      shown-le c.args.g (get_or c.args.spans head.y no_span),
-      visible_small c.args.g _ _ (omega arith) c.requires.1,
-    )
-
 pub loop-y-init : goal.loop-y-init
 loop-y-init c =
     (omega arith, search rules, refl, refreshed_none _ _ _, refl, omega arith)
 
 pub overflow_add-moved : goal.overflow_add-moved
 overflow_add-moved c =
-    omega (arith, small c)
+    let small = shown-le c.args.g (get_or c.args.spans c.loop-y.y no_span) in
+    let few : c.args.g.visible ≤ 65536 = visible_small c.args.g _ _ (omega arith) c.requires.1 in omega arith
 
 pub loop-y-preserved : goal.loop-y-preserved
 loop-y-preserved c =
@@ -38,7 +29,8 @@ loop-y-preserved c =
       omega (arith, copying.auto.glass),
       refreshed-turn _ _ spans head.y _ _ _ (omega arith) head.invariant.3 copying.ensures.0,
       shown-turn _ spans head.y _ _ (omega arith) head.invariant.4 copying.ensures.1,
-      omega (arith, small c),
+      let small = shown-le c.args.g (get_or c.args.spans c.loop-y.y no_span) in
+    let few : c.args.g.visible ≤ 65536 = visible_small c.args.g _ _ (omega arith) c.requires.1 in omega arith,
     )
 
 pub returns : goal.returns
