@@ -45,8 +45,8 @@ module _ (cols : List ℕ) (blanks : ℕ) (p : Lift) (y : Style) (down r : ℕ) 
         → m₂ ≡ laid (row_stroke cols blanks p y down r n mixing) s from (blanks * n) m
     row_left v m₂ ev q =
         let all : 0 + blanks ≡ blanks = omega arith in
-        turned_to_lem _ _ _ m m₂
-        (row_more n mixing s from 0 blanks from v m m m₂ pos (turned_none _ (0 * n) m (omega arith)) (omega arith)
+        turned_to_lem (byte_turn (row_stroke cols blanks p y down r n mixing) s from) _ _ m m₂
+        (row_more n mixing s from 0 blanks from v m m m₂ pos (turned_none (byte_turn (row_stroke cols blanks p y down r n mixing) s from) (0 * n) m (omega arith)) (omega arith)
         (λ b h. ev ∙ sym (row_none (0 + b) (fetched_left cols blanks (0 + b) (omega arith)))) q) (ap (λ (t : ℕ). t * n) all)
 
     -- one of the glyph's
@@ -56,13 +56,13 @@ module _ (cols : List ℕ) (blanks : ℕ) (p : Lift) (y : Style) (down r : ℕ) 
         → m₂ ≡ laid (row_stroke cols blanks p y down r n mixing) s from ((blanks + (j + 1)) * n) m
     row_glyph j at v m₁ m₂ h e ea ev q =
         let one : blanks + j + 1 ≡ blanks + (j + 1) = omega arith in
-        turned_to_lem _ _ _ m m₂
+        turned_to_lem (byte_turn (row_stroke cols blanks p y down r n mixing) s from) _ _ m m₂
         (row_more n mixing s from (blanks + j) 1 at v m m₁ m₂ pos e ea
         (λ b l.
         let here : blanks + j + b ≡ blanks + j = omega (arith, l) in
         ev ∙ ap (λ (u : ℕ). reversed_byte y (tall_byte down r (lifted_of p u))) (sym (fetched_glyph cols blanks j h))
         ∙ ap (row_byte cols blanks p y down r) (sym here))
-        (turned_to_lem _ n (1 * n) m₁ m₂ q (omega arith))) (ap (λ (t : ℕ). t * n) one)
+        (turned_to_lem (byte_turn (λ i b. mixed_by mixing v b) s at) n (1 * n) m₁ m₂ q (omega arith))) (ap (λ (t : ℕ). t * n) one)
 
     -- those on the right
     pub row_right : (j c at v : ℕ) (m₁ m₂ : List ℕ) → length cols ≤ j → m₁ ≡ laid (row_stroke cols blanks p y down r n mixing) s from ((blanks + j) * n) m

@@ -1,7 +1,6 @@
 -- `cells_rows::put` meets its contract: a byte after the other, as many as are asked for. Assumes nothing.
 use mathlib.Core.Path.{refl}
 use native.Mathlib.Omega.{arith}
-use borrow.Author.Rules.{rules}
 use lib.ListN.{length-set}
 use Rattle.laws_laid.specs.Laid.{Stroke}
 use Rattle.laws_laid.proofs.Laid.{laid_more, reach_1, reach_2, reach_3, reach_4}

@@ -1,13 +1,11 @@
 -- `cells_rows::row` meets its contract. The loop's invariant: the columns so far are laid, whatever the memory was before the blank one on the
 -- left, and the next goes to address a. Assumes nothing.
 use mathlib.Core.Path.{◌≡◌, refl, ap, ◌∙◌}
-use mathlib.Core.List.{List}
-use Prim.Native.Nat.{ℕ, ◌+◌, ◌*◌, ◌-◌, ◌<◌, ◌≤◌}
+use Prim.Native.Nat.{ℕ, ◌+◌, ◌*◌, ◌<◌}
 use native.Mathlib.Nat.{mul-le-mul_left}
 use native.Mathlib.Omega.{arith}
-use lib.ListN.{length}
 use Rattle.laws_bytes.specs.Bytes.{tall_byte, reversed_byte}
-use Rattle.laws_laid.specs.Laid.{byte_turn, laid}
+use Rattle.laws_laid.specs.Laid.{byte_turn}
 use Rattle.laws_laid.proofs.Laid.{turned_to_lem, columns_reach}
 use Rattle.glyphs_columns.specs.Columns.{row_stroke, whole_of}
 use Rattle.cells_rows.proofs.Rows.{row_left, row_glyph, row_right}
@@ -26,7 +24,7 @@ edge-a-requires c =
     let a = c.args in
     let reach = columns_reach a.from a.s a.n 0 a.blanks (whole_of a.cols.now a.blanks a.p) _ (omega arith) c.requires.n_in_bounds in
     let q = c.requires.blanks_bound in
-    record { count_bound = (q.0, q.3, q.4, q.5, q.6); n_in_bounds = omega (arith, reach); }
+    record { count_bound = (q.0, q.3, q.4, q.5, q.6); n_in_bounds = omega (arith, reach) }
 
 pub loop-j-init : goal.loop-j-init
 loop-j-init c =
@@ -80,7 +78,7 @@ edge-requires c =
     let reach = columns_reach a.from a.s a.n (a.blanks + head.j) a.p.down (whole_of a.cols.now a.blanks a.p) _ (omega arith) c.requires.n_in_bounds in
     let same = c.edge-a.auto.mem in
     let q = c.requires.blanks_bound in
-    record { count_bound = (q.1, q.3, q.4, q.5, omega (arith, head.invariant.1, same)); n_in_bounds = omega (arith, reach, head.invariant.1, head.invariant.2, same); }
+    record { count_bound = (q.1, q.3, q.4, q.5, omega (arith, head.invariant.1, same)); n_in_bounds = omega (arith, reach, head.invariant.1, head.invariant.2, same) }
 
 pub shape_of-mem : goal.shape_of-mem
 shape_of-mem c =

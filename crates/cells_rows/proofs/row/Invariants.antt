@@ -1,16 +1,11 @@
 -- `cells_rows::row` meets its contract. The loop's invariant: the columns so far are laid, whatever the memory was before the blank one on the
 -- left, and the next goes to address a. Assumes nothing.
-use mathlib.Core.Path.{◌≡◌, refl, ap, ◌∙◌}
+use mathlib.Core.Path.{◌≡◌}
 use mathlib.Core.List.{List}
-use Prim.Native.Nat.{ℕ, ◌+◌, ◌*◌, ◌-◌, ◌<◌, ◌≤◌}
-use native.Mathlib.Nat.{mul-le-mul_left}
-use native.Mathlib.Omega.{arith}
+use Prim.Native.Nat.{ℕ, ◌+◌, ◌*◌, ◌-◌, ◌≤◌}
 use lib.ListN.{length}
-use Rattle.laws_bytes.specs.Bytes.{tall_byte, reversed_byte}
-use Rattle.laws_laid.specs.Laid.{byte_turn, laid}
-use Rattle.laws_laid.proofs.Laid.{turned_to_lem, columns_reach}
-use Rattle.glyphs_columns.specs.Columns.{row_stroke, whole_of}
-use Rattle.cells_rows.proofs.Rows.{row_left, row_glyph, row_right}
+use Rattle.laws_laid.specs.Laid.{laid}
+use Rattle.glyphs_columns.specs.Columns.{row_stroke}
 use Rattle.cells_rows.proofs.row.Given as goal
 
 abbrev pub invariant-loop-j : goal.invariant-loop-j

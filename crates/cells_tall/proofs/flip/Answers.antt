@@ -2,11 +2,10 @@
 -- Assumes nothing.
 use mathlib.Core.Path.{ap, ◌∙◌}
 use mathlib.Core.Bool.{true}
-use Prim.Native.Nat.{◌-◌}
 use native.Mathlib.Nat.{mul-le-mul_left}
 use native.Mathlib.Omega.{arith}
 use Rattle.cells_tall.specs.Both.{spread_of, reversed_both}
-use Rattle.cells_tall.proofs.Columns.{Stored, stored_none, stored_more, stored-all, reach_left, reach_glyph, reach_right}
+use Rattle.cells_tall.proofs.Columns.{stored_none, stored_more, stored-all, reach_left, reach_glyph, reach_right}
 use Rattle.cells_tall.proofs.flip.Goals as goal
 
 pub overflow_mul-step : goal.overflow_mul-step
@@ -17,7 +16,7 @@ pub edge-a-requires : goal.edge-a-requires
 edge-a-requires c =
     let a = c.args in
     let q = c.requires.blanks_bound in
-    record { count_bound = (q.0, q.3, q.4, q.6, q.7); n_in_bounds = reach_left a.cols.now a.blanks a.p a.style true a.n a.s a.from _ q.7 c.requires.n_in_bounds; }
+    record { count_bound = (q.0, q.3, q.4, q.6, q.7); n_in_bounds = reach_left a.cols.now a.blanks a.p a.style true a.n a.s a.from _ q.7 c.requires.n_in_bounds }
 
 pub loop-j-init : goal.loop-j-init
 loop-j-init c =
@@ -61,7 +60,7 @@ edge-requires c =
     let a = c.args in
     let q = c.requires.blanks_bound in
     let reach = reach_right a.cols.now a.blanks a.p a.style true a.n a.s a.from _ q.7 c.requires.n_in_bounds head.j head.a _ head.mem head.invariant c.edge-a.auto.mem in
-    record { count_bound = (q.1, q.3, q.4, q.6, reach.1); n_in_bounds = reach.0; }
+    record { count_bound = (q.1, q.3, q.4, q.6, reach.1); n_in_bounds = reach.0 }
 
 pub shape_of-mem : goal.shape_of-mem
 shape_of-mem c =

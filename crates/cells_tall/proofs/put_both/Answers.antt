@@ -24,43 +24,34 @@ module _ (a s n len : ℕ) (pre : (1 ≤ n) × (n ≤ 4) × (a + 1 + s * n < len
   room-1 : (a + 1 < len) × (len ≤ 65536)
   room-1 = (reach_1 (a + 1) s n len pre.2 pre.0, pre.4)
 
-
   room-2 : (l : ℕ) → l ≡ len → n ≢ 1 → (a + s + 1 < l) × (l ≤ 65536)
   room-2 l e n₁ = (omega (arith, e, reach_2 (a + 1) s n len pre.2 (omega arith)), omega (arith, e))
-
 
   room-3 : (l : ℕ) → l ≡ len → n ≢ 1 → n ≢ 2 → (a + s + s + 1 < l) × (l ≤ 65536)
   room-3 l e n₁ n₂ = (omega (arith, e, reach_3 (a + 1) s n len pre.2 (omega arith)), omega (arith, e))
 
-
   room-4 : (l : ℕ) → l ≡ len → n ≢ 1 → n ≢ 2 → n ≢ 3 → (a + s + s + s + 1 < l) × (l ≤ 65536)
   room-4 l e n₁ n₂ n₃ = (omega (arith, e, reach_4 (a + 1) s n len pre.2 (omega arith)), omega (arith, e))
 
-
   last-4 : n ≢ 1 → n ≢ 2 → n ≢ 3 → n ≡ 4
   last-4 n₁ n₂ n₃ = omega arith
-
 
 -- one column, two, three and four
 module _ (flip : Bool) (z s a : ℕ) (m m₁ : List ℕ) where
   one : (n : ℕ) → n ≡ 1 → m₁ ≡ stacked (both_stroke flip (λ j. z)) 2 a 1 m → m₁ ≡ stacked (both_stroke flip (λ j. z)) s a n m
   one n e = more flip z s a 0 n a m m m₁ refl (omega arith) e
 
-
   two : (n : ℕ) (m₂ : List ℕ) → n ≡ 2 → m₁ ≡ stacked (both_stroke flip (λ j. z)) s a 1 m
       → m₂ ≡ stacked (both_stroke flip (λ j. z)) 2 (a + s) 1 m₁ → m₂ ≡ stacked (both_stroke flip (λ j. z)) s a n m
   two n m₂ e p = more flip z s a 1 n (a + s) m m₁ m₂ p (omega arith) e
-
 
   three : (n : ℕ) (m₂ : List ℕ) → n ≡ 3 → m₁ ≡ stacked (both_stroke flip (λ j. z)) s a 2 m
       → m₂ ≡ stacked (both_stroke flip (λ j. z)) 2 (a + s + s) 1 m₁ → m₂ ≡ stacked (both_stroke flip (λ j. z)) s a n m
   three n m₂ e p = more flip z s a 2 n (a + s + s) m m₁ m₂ p (omega arith) e
 
-
   four : (n : ℕ) (m₂ : List ℕ) → n ≡ 4 → m₁ ≡ stacked (both_stroke flip (λ j. z)) s a 3 m
       → m₂ ≡ stacked (both_stroke flip (λ j. z)) 2 (a + s + s + s) 1 m₁ → m₂ ≡ stacked (both_stroke flip (λ j. z)) s a n m
   four n m₂ e p = more flip z s a 3 n (a + s + s + s) m m₁ m₂ p (omega arith) e
-
 
 pub store-requires : goal.store-requires
 store-requires c =

@@ -1,5 +1,4 @@
 -- `cells_tall::reversed_both` meets its contract, by its test. Assumes nothing.
-use borrow.Author.Rules.{rules}
 use borrow.Author.Tests.{eq-eqb, ne_eqb}
 use Rattle.cells_tall.proofs.reversed_both.Goals as goal
 

@@ -1,5 +1,4 @@
 -- `dots_shift::move_left` meets its contract. The columns kept come from the right; the rest is zeroed. Assumes nothing.
-use borrow.Author.Rules.{rules}
 use native.Mathlib.Omega.{arith}
 use Rattle.laws_memory.proofs.Pulls.{moved_parts}
 use Rattle.dots_shift.proofs.move_left.Goals as goal

@@ -1,5 +1,4 @@
 -- `dots_shift::scroll_up` meets its contract. The rows kept come from below; the rest is zeroed. Assumes nothing.
-use borrow.Author.Rules.{rules}
 use native.Mathlib.Omega.{arith}
 use Rattle.laws_memory.proofs.Pulls.{scrolled_parts}
 use Rattle.dots_shift.proofs.scroll_up.Goals as goal

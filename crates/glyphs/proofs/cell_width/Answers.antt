@@ -2,7 +2,6 @@
 use Prim.Native.Nat.{◌+◌, ◌≤◌}
 use native.Mathlib.Nat.{mul-le-mul}
 use native.Mathlib.Omega.{arith}
-use borrow.Author.Rules.{rules}
 use Rattle.paper.specs.Cells.{cell_width}
 use Rattle.glyphs.proofs.Blanks.{columns_few}
 use Rattle.glyphs.proofs.cell_width.Goals as goal

@@ -1,5 +1,4 @@
 -- `glyphs::own_glyph` meets its contract, by whether the code is stored. Assumes nothing.
-use borrow.Author.Rules.{rules}
 use borrow.Author.Tests.{lt-ltb, le-ltb}
 use Rattle.glyphs.specs.Own.{own_columns}
 use Rattle.glyphs.proofs.own_glyph.Goals as goal

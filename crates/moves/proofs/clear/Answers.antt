@@ -1,5 +1,4 @@
 -- `moves::clear` meets its contract. Assumes nothing.
-use borrow.Author.Rules.{rules}
 use native.Mathlib.Omega.{arith}
 use Rattle.paper.specs.Moves.{clear_of}
 use Rattle.laws_memory.specs.Rectangles.{cleared}

@@ -1,5 +1,4 @@
 -- `moves::marked` meets its contract. Assumes nothing.
-use borrow.Author.Rules.{rules}
 use Rattle.moves.proofs.marked.Goals as goal
 
 pub returns : goal.returns

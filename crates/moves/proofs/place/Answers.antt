@@ -1,5 +1,4 @@
 -- `moves::place` meets its contract. Assumes nothing.
-use borrow.Author.Rules.{rules}
 use Rattle.moves.proofs.Done.{spot-at}
 use Rattle.moves.proofs.place.Goals as goal
 

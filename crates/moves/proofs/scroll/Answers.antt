@@ -1,5 +1,4 @@
 -- `moves::scroll` meets its contract. Assumes nothing.
-use borrow.Author.Rules.{rules}
 use native.Mathlib.Omega.{arith}
 use Rattle.laws_memory.specs.Rectangles.{scrolled_up}
 use Rattle.moves.proofs.Done.{does_stroke}

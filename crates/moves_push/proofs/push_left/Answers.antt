@@ -1,5 +1,4 @@
 -- `moves_push::push_left` meets its contract. Assumes nothing.
-use borrow.Author.Rules.{rules}
 use native.Mathlib.Omega.{arith}
 use Rattle.paper.specs.Moves.{push_left}
 use Rattle.laws_memory.specs.Rectangles.{moved_left}

@@ -2,7 +2,6 @@
 use mathlib.Core.Bool.{not}
 use lib.Dec.{leb, eqb, leb→le}
 use borrow.Author.Tests.{le-leb, lt-leb}
-use borrow.Author.Rules.{rules}
 use Rattle.paper.specs.Moves.{back_of}
 use Rattle.laws_memory.proofs.Tests.{and_1}
 use Rattle.moves_views.proofs.back.Goals as goal

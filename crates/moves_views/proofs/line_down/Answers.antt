@@ -1,5 +1,4 @@
 -- `moves_views::line_down` meets its contract. Assumes nothing.
-use borrow.Author.Rules.{rules}
 use Rattle.paper.specs.Moves.{line_down}
 use Rattle.moves_views.proofs.line_down.Goals as goal
 

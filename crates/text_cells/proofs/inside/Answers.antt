@@ -1,0 +1,6 @@
+-- `text_cells::inside` meets its contract. Assumes nothing.
+use Rattle.text_cells.proofs.inside.Goals as goal
+
+pub returns : goal.returns
+returns c =
+    rw (c.least.ensures, c.least-2.ensures)
