@@ -61,8 +61,8 @@ returns-then-is_accepted c =
     let glass_whole : let a = c.args in length a.glass.now ≡ glass_length a.g = c.if-glass-glass_length.false ∙ c.glass_length.ensures in
     let a = c.args in
     let e = c.refresh-moved.ensures in
-    ap (λ (x : Refreshed). refreshed x c.refresh-moved.new.1.1.0) c.moves-then-is_accepted.ensures
-    ∙ ap (λ (ps : List Span). refreshing Accepted (with_spans a.s ps) c.refresh-moved.result c.refresh-moved.new.1.1.0) c.no_spans.ensures
+    ap (λ (x : Refreshed). refreshed x c.refresh-moved.new.glass) c.moves-then-is_accepted.ensures
+    ∙ ap (λ (ps : List Span). refreshing Accepted (with_spans a.s ps) c.refresh-moved.result c.refresh-moved.new.glass) c.no_spans.ensures
     ∙ ap₂ (λ (n : ℕ) (x : List ℕ). refreshing Accepted (with_spans a.s (no_spans a.g)) n x) e.1 e.0
     ∙ refresh_accepted a.g a.s a.store.now a.mem.now a.glass.now memory_whole glass_whole
     (sym c.is_accepted.ensures ∙ c.if-is_accepted.true)

@@ -7,24 +7,28 @@ use Rattle.paper.specs.Carry.{asks, carried_out}
 use Rattle.carry_state.proofs.Answers.{is_11, is_10, says, ends_at}
 use Rattle.paper.specs.declared.Cursor.{Cursor}
 use Rattle.paper.specs.Settings.{at_cursor, cursor}
-use Rattle.carry_state.proofs.set_cursor.Statement.{statement}
-use Rattle.carry_state.proofs.set_cursor.Tie as tie
+use Rattle.carry_state.proofs.set_cursor.Goals as goal
 
-inside-window-requires : tie.Need-inside-window-requires
-inside-window-requires c κs = search rules
+pub inside_window-requires : goal.inside_window-requires
+inside_window-requires c =
+    search rules
 
-cursor-of-requires : tie.Need-cursor-of-requires
-cursor-of-requires c κs = search rules
+pub cursor_of-c-requires : goal.cursor_of-c-requires
+cursor_of-c-requires c =
+    search rules
 
-at-cursor-requires : tie.Need-at-cursor-requires
-at-cursor-requires c κs = search rules
+pub at_cursor-requires : goal.at_cursor-requires
+at_cursor-requires c =
+    search rules
 
-ends-requires : tie.Need-ends-requires
-ends-requires c κs = search rules
+pub ends-requires : goal.ends-requires
+ends-requires c =
+    search rules
 
-returns : tie.Need-returns
+pub returns-then-inside_window : goal.returns-then-inside_window
 unfolding asks carried_out
-returns c font =
+returns-then-inside_window c =
+    returns c font =
     let found = c.before.before in
     let tested = found.before in
     let a = tested.before.before.args in
@@ -41,22 +45,12 @@ returns c font =
       stored = refl;
     }))
 
-ends-requires-2 : tie.Need-ends-requires-2
-ends-requires-2 c κs = search rules
+pub ends-requires-2 : goal.ends-requires-2
+ends-requires-2 c =
+    search rules
 
-returns-2 : tie.Need-returns-2
+pub returns : goal.returns
 unfolding asks carried_out
-returns-2 c font = says c.ends2.ensures
+returns c =
+    returns-2 c font = says c.ends2.ensures
     (is_11 _ font _ (CursorSet _ _) refl refl (ap not (sym c.before.before.inside-window.ensures ∙ c.before.if1.false)))
-
-pub set-cursor-spec : {M : Type 1} → statement M
-set-cursor-spec =
-    tie.close
-    (tie.spec
-    inside-window-requires
-    cursor-of-requires
-    at-cursor-requires
-    ends-requires
-    returns
-    ends-requires-2
-    returns-2)
