@@ -11,6 +11,46 @@ use Rattle.accept_windows.proofs.selectable.Goals as goal
 past : (k : ℕ) → (((((Unit {0} × (k ≡ 0 → ⊥)) × (k ≡ 1 → ⊥)) × (k ≡ 2 → ⊥)) × (k ≡ 3 → ⊥)) × (k ≡ 4 → ⊥)) → 4 < k
 past k (((((u, a), b), c), d), e) = omega arith
 
+pub bounds-ws-0 : goal.bounds-ws-0
+unfolding selectable
+bounds-ws-0 c =
+    search rules
+
+pub is_defined-requires : goal.is_defined-requires
+unfolding selectable
+is_defined-requires c =
+    search rules
+
+pub bounds-ws-1 : goal.bounds-ws-1
+unfolding selectable
+bounds-ws-1 c =
+    search rules
+
+pub is_defined-requires-in-2 : goal.is_defined-requires-in-2
+unfolding selectable
+is_defined-requires-in-2 c =
+    search rules
+
+pub bounds-ws-2 : goal.bounds-ws-2
+unfolding selectable
+bounds-ws-2 c =
+    search rules
+
+pub is_defined-requires-in-3 : goal.is_defined-requires-in-3
+unfolding selectable
+is_defined-requires-in-3 c =
+    search rules
+
+pub bounds-ws-3 : goal.bounds-ws-3
+unfolding selectable
+bounds-ws-3 c =
+    search rules
+
+pub is_defined-requires-in-4 : goal.is_defined-requires-in-4
+unfolding selectable
+is_defined-requires-in-4 c =
+    search rules
+
 pub returns-in-0 : goal.returns-in-0
 unfolding selectable
 returns-in-0 c =
@@ -39,4 +79,4 @@ returns-in-4 c =
 pub returns-in_default : goal.returns-in_default
 unfolding selectable
 returns-in_default c =
-    rw (ne_eqb _ _ c.in-0.rest.0.0.0.0.1, lt-leb _ _ (past _ c.in-0.rest))
+    rw (ne_eqb _ _ c.in_default.in_default-own.rest.0.0.0.0.1, lt-leb _ _ (past _ c.in_default.in_default-own.rest))

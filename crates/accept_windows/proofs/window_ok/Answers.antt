@@ -11,4 +11,4 @@ returns-then-is_blank c =
 pub returns : goal.returns
 unfolding window_ok
 returns c =
-    rw (← c.is_blank.ensures, c.if-is_blank.false, c.fits2.ensures, c.cursor_ok.ensures)
+    rw (← c.is_blank.ensures, c.if-is_blank.false, c.fits.ensures, c.cursor_ok.ensures)

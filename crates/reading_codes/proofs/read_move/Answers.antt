@@ -31,7 +31,7 @@ returns-in-12 c =
 pub returns-in_default : goal.returns-in_default
 unfolding read_move
 returns-in_default c =
-    let e = c.in-8.rest in rw (
+    let e = c.in_default.in_default-own.rest in rw (
       differs e.0.0.0.0.1,
       differs e.0.0.0.1,
       differs e.0.0.1,

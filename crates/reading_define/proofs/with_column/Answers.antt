@@ -12,6 +12,11 @@ use Rattle.reading_define.proofs.with_column.Goals as goal
 seventh : (n : ℕ) → n < 7 → (n ≡ 0 → ⊥) → (n ≡ 1 → ⊥) → (n ≡ 2 → ⊥) → (n ≡ 3 → ⊥) → (n ≡ 4 → ⊥) → (n ≡ 5 → ⊥) → eqb n 6 ≡ true
 seventh n h n0 n1 n2 n3 n4 n5 = eq-eqb n 6 (omega arith)
 
+pub overflow_add-t : goal.overflow_add-t
+unfolding with_column
+overflow_add-t c =
+    omega arith
+
 pub returns-in-0 : goal.returns-in-0
 unfolding with_column
 returns-in-0 c =
@@ -45,7 +50,7 @@ returns-in-5 c =
 pub returns-in_default : goal.returns-in_default
 unfolding with_column
 returns-in_default c =
-    let e = c.in-0.rest in rw (
+    let e = c.in_default.in_default-own.rest in rw (
       ne_eqb _ _ e.0.0.0.0.0.1,
       ne_eqb _ _ e.0.0.0.0.1,
       ne_eqb _ _ e.0.0.0.1,

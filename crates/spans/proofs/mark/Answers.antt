@@ -8,6 +8,6 @@ use Rattle.spans.proofs.mark.Goals as goal
 
 pub returns : goal.returns
 returns c =
-    let spans = c.args.t1 in
+    let spans = c.args.spans in
     ap₂ (λ (p q : Span). p ∷ q ∷ []) c.grow_row-above.ensures c.grow_row-below.ensures
     ∙ mark_two _ spans (search rules)

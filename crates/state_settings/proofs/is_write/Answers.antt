@@ -3,6 +3,7 @@ use mathlib.Core.List.{[], ◌∷◌}
 use borrow.Author.Rules.{rules}
 use Rattle.paper.specs.Carry.{is_write}
 use Rattle.state_settings.proofs.Keys.{elsewhere}
+use borrow.Enum.Refused.{opened}
 use Rattle.state_settings.proofs.is_write.Goals as goal
 
 pub returns-in-Write : goal.returns-in-Write
@@ -14,4 +15,4 @@ pub returns-in_default : goal.returns-in_default
 unfolding is_write
 returns-in_default c =
     elsewhere is_write (0 ∷ 1 ∷ 2 ∷ 3 ∷ 4 ∷ 5 ∷ 6 ∷ 7 ∷ 9 ∷ []) c.args.key (search rules)
-    c.in-Write.keys2
+    (opened c.in_default.in_default-own.keys2)

@@ -2,6 +2,7 @@
 use mathlib.Core.Path.{sym}
 use Rattle.turns_half.specs.Halves.{is_image}
 use Rattle.turns_half.proofs.Halves.{no_image}
+use borrow.Enum.Refused.{opened}
 use Rattle.turns_half.proofs.is_image.Goals as goal
 
 pub returns-in-ImageData : goal.returns-in-ImageData
@@ -12,4 +13,4 @@ returns-in-ImageData c =
 pub returns-in_default : goal.returns-in_default
 unfolding is_image
 returns-in_default c =
-    sym (no_image c.args.half c.in-ImageData.keys2)
+    sym (no_image c.args.half (opened c.in_default.in_default-own.keys2))
