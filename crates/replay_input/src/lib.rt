@@ -179,15 +179,15 @@ pub fn fill(buffer: &mut [u8], b: u8) {
 }
 
 // What the last call differs in, in words.
-pub fn write_what(out: &impl Print, differs: u8) -> io::Result<()> {
+pub fn write_what(rt: &impl Print, differs: u8) -> io::Result<()> {
     match differs {
-        0 => out.write_all(b" calls played, no difference\n"),
-        1 => out.write_all(b" calls played, the last with another answer\n"),
-        2 => out.write_all(b" calls played, the last with another outcome\n"),
-        3 => out.write_all(b" calls played, the last with another count\n"),
-        4 => out.write_all(b" calls played, the last left another memory\n"),
-        5 => out.write_all(b" calls played, the last left another glass\n"),
-        6 => out.write_all(b" calls played, the last left another record\n"),
-        _ => out.write_all(b" calls played, the last with another place\n"),
+        0 => rt.write_all(b" calls played, no difference\n"),
+        1 => rt.write_all(b" calls played, the last with another answer\n"),
+        2 => rt.write_all(b" calls played, the last with another outcome\n"),
+        3 => rt.write_all(b" calls played, the last with another count\n"),
+        4 => rt.write_all(b" calls played, the last left another memory\n"),
+        5 => rt.write_all(b" calls played, the last left another glass\n"),
+        6 => rt.write_all(b" calls played, the last left another record\n"),
+        _ => rt.write_all(b" calls played, the last with another place\n"),
     }
 }

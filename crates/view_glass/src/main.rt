@@ -9,27 +9,27 @@ use std::io;
 use std::io::Print;
 
 // Writes the glass in a frame, and the note below it.
-fn write_drawn(out: &impl Print, glass: &[u8], note: &[u8]) -> io::Result<()>
+fn write_drawn(rt: &impl Print, glass: &[u8], note: &[u8]) -> io::Result<()>
     requires { length glass.now ≡ 224 }
 {
-    let mut drawn = [0u8; 4096];
-    let n = view_picture::draw(&mut drawn, glass);
-    out.write_all(view_text::part(&drawn, 0, n))?;
-    out.write_all(note)
+    let mut out = [0u8; 4096];
+    let n = view_picture::draw(&mut out, glass);
+    rt.write_all(view_text::part(&out, 0, n))?;
+    rt.write_all(note)
 }
 
 // Writes the glass as a PBM file.
-fn write_pbm(out: &impl Print, glass: &[u8]) -> io::Result<()>
+fn write_pbm(rt: &impl Print, glass: &[u8]) -> io::Result<()>
     requires { length glass.now ≡ 224 }
 {
-    let mut file = [0u8; 256];
-    let n = view_picture::pbm(&mut file, glass);
-    out.write_all(view_text::part(&file, 0, n))
+    let mut out = [0u8; 256];
+    let n = view_picture::pbm(&mut out, glass);
+    rt.write_all(view_text::part(&out, 0, n))
 }
 
 // Writes the glass as a word asks: `draw` or `pbm`.
 fn write_as(
-    out: &impl Print,
+    rt: &impl Print,
     err: &impl Print,
     word: &[u8],
     glass: &[u8],
@@ -38,10 +38,10 @@ fn write_as(
     requires { length glass.now ≡ 224 }
 {
     if word == b"draw".as_slice() {
-        return write_drawn(out, glass, note);
+        return write_drawn(rt, glass, note);
     }
     if word == b"pbm".as_slice() {
-        return write_pbm(out, glass);
+        return write_pbm(rt, glass);
     }
     view_io::complain(err, b"an argument that is neither draw nor pbm")
 }
