@@ -1,0 +1,17 @@
+-- `dots::clear` meets its contract. The loop's invariant: the first i rows are zeroed. Assumes nothing.
+use mathlib.Core.Path.{◌≡◌, refl}
+use Prim.Native.Nat.{◌≤◌, ◌-◌}
+use native.Mathlib.Omega.{arith}
+use lib.ListN.{length}
+use Rattle.paper.specs.Strokes.{rect_at}
+use Rattle.laws_memory.specs.Rectangles.{cleared}
+use Rattle.laws_memory.proofs.Rects.{rect_none, rect_turn, rect_end}
+use Rattle.dots.proofs.clear.Given as goal
+
+abbrev pub invariant-loop-i : goal.invariant-loop-i
+invariant-loop-i l =
+    (l.i ≤ l.i-end) × (length l.mem ≡ length l.initial.mem) × (l.mem ≡ cleared l.g (rect_at l.r.left l.r.top l.r.width l.i) l.initial.mem)
+
+abbrev pub decreases-loop-i : goal.decreases-loop-i
+decreases-loop-i l =
+    l.i-end - l.i

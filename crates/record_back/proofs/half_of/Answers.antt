@@ -1,0 +1,162 @@
+-- `half_of` meets its contract: an arm for each number, and one for the rest. Assumes nothing.
+use borrow.Author.Tests.{ne_eqb}
+use Rattle.record_half.specs.Slots.{half_of}
+use Rattle.record_back.proofs.half_of.Goals as goal
+
+pub returns-in-1 : goal.returns-in-1
+unfolding half_of
+returns-in-1 c =
+    rw c.in-1.is
+
+pub returns-in-2 : goal.returns-in-2
+unfolding half_of
+returns-in-2 c =
+    rw c.in-2.is
+
+pub returns-in-3 : goal.returns-in-3
+unfolding half_of
+returns-in-3 c =
+    rw c.in-3.is
+
+pub returns-in-4 : goal.returns-in-4
+unfolding half_of
+returns-in-4 c =
+    rw c.in-4.is
+
+pub returns-in-5 : goal.returns-in-5
+unfolding half_of
+returns-in-5 c =
+    rw c.in-5.is
+
+pub returns-in-6 : goal.returns-in-6
+unfolding half_of
+returns-in-6 c =
+    rw c.in-6.is
+
+pub returns-in-7 : goal.returns-in-7
+unfolding half_of
+returns-in-7 c =
+    rw c.in-7.is
+
+pub returns-in-8 : goal.returns-in-8
+unfolding half_of
+returns-in-8 c =
+    rw (c.in-8.is, ← c.key_of.ensures)
+
+pub returns-in-9 : goal.returns-in-9
+unfolding half_of
+returns-in-9 c =
+    rw c.in-9.is
+
+pub returns-in-10 : goal.returns-in-10
+unfolding half_of
+returns-in-10 c =
+    rw c.in-10.is
+
+pub returns-in-11 : goal.returns-in-11
+unfolding half_of
+returns-in-11 c =
+    rw c.in-11.is
+
+pub returns-in-12 : goal.returns-in-12
+unfolding half_of
+returns-in-12 c =
+    rw c.in-12.is
+
+pub returns-in-13 : goal.returns-in-13
+unfolding half_of
+returns-in-13 c =
+    rw c.in-13.is
+
+pub returns-in-14 : goal.returns-in-14
+unfolding half_of
+returns-in-14 c =
+    rw c.in-14.is
+
+pub returns-in-15 : goal.returns-in-15
+unfolding half_of
+returns-in-15 c =
+    rw (c.in-15.is, ← c.word_of.ensures)
+
+pub returns-in-16 : goal.returns-in-16
+unfolding half_of
+returns-in-16 c =
+    rw (c.in-16.is, ← c.word_of-in-16.ensures)
+
+pub returns-in-17 : goal.returns-in-17
+unfolding half_of
+returns-in-17 c =
+    rw c.in-17.is
+
+pub returns-in-18 : goal.returns-in-18
+unfolding half_of
+returns-in-18 c =
+    rw c.in-18.is
+
+pub returns-in-19 : goal.returns-in-19
+unfolding half_of
+returns-in-19 c =
+    rw c.in-19.is
+
+pub returns-in-20 : goal.returns-in-20
+unfolding half_of
+returns-in-20 c =
+    rw c.in-20.is
+
+pub returns-in-21 : goal.returns-in-21
+unfolding half_of
+returns-in-21 c =
+    rw c.in-21.is
+
+pub returns-in-22 : goal.returns-in-22
+unfolding half_of
+returns-in-22 c =
+    rw c.in-22.is
+
+pub returns-in-23 : goal.returns-in-23
+unfolding half_of
+returns-in-23 c =
+    rw c.in-23.is
+
+pub returns-in-24 : goal.returns-in-24
+unfolding half_of
+returns-in-24 c =
+    rw c.in-24.is
+
+pub returns-in-25 : goal.returns-in-25
+unfolding half_of
+returns-in-25 c =
+    rw c.in-25.is
+
+pub returns-in_default : goal.returns-in_default
+unfolding half_of
+returns-in_default c =
+    let e = c.in_default.in_default-own.rest in
+    let f = e.0.0.0.0.0.0.0.0 in
+    let g = f.0.0.0.0.0.0.0.0 in rw (
+      ne_eqb _ _ g.0.0.0.0.0.0.0.0.1,
+      ne_eqb _ _ g.0.0.0.0.0.0.0.1,
+      ne_eqb _ _ g.0.0.0.0.0.0.1,
+      ne_eqb _ _ g.0.0.0.0.0.1,
+      ne_eqb _ _ g.0.0.0.0.1,
+      ne_eqb _ _ g.0.0.0.1,
+      ne_eqb _ _ g.0.0.1,
+      ne_eqb _ _ g.0.1,
+      ne_eqb _ _ g.1,
+      ne_eqb _ _ f.0.0.0.0.0.0.0.1,
+      ne_eqb _ _ f.0.0.0.0.0.0.1,
+      ne_eqb _ _ f.0.0.0.0.0.1,
+      ne_eqb _ _ f.0.0.0.0.1,
+      ne_eqb _ _ f.0.0.0.1,
+      ne_eqb _ _ f.0.0.1,
+      ne_eqb _ _ f.0.1,
+      ne_eqb _ _ f.1,
+      ne_eqb _ _ e.0.0.0.0.0.0.0.1,
+      ne_eqb _ _ e.0.0.0.0.0.0.1,
+      ne_eqb _ _ e.0.0.0.0.0.1,
+      ne_eqb _ _ e.0.0.0.0.1,
+      ne_eqb _ _ e.0.0.0.1,
+      ne_eqb _ _ e.0.0.1,
+      ne_eqb _ _ e.0.1,
+      ne_eqb _ _ e.1,
+    )

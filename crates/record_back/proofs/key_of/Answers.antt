@@ -1,0 +1,64 @@
+-- `key_of` meets its contract: an arm for each number, and one for the rest. Assumes nothing.
+use borrow.Author.Tests.{ne_eqb}
+use Rattle.record_half.specs.Slots.{key_of}
+use Rattle.record_back.proofs.key_of.Goals as goal
+
+pub returns-in-1 : goal.returns-in-1
+unfolding key_of
+returns-in-1 c =
+    rw c.in-1.is
+
+pub returns-in-2 : goal.returns-in-2
+unfolding key_of
+returns-in-2 c =
+    rw c.in-2.is
+
+pub returns-in-3 : goal.returns-in-3
+unfolding key_of
+returns-in-3 c =
+    rw c.in-3.is
+
+pub returns-in-4 : goal.returns-in-4
+unfolding key_of
+returns-in-4 c =
+    rw c.in-4.is
+
+pub returns-in-5 : goal.returns-in-5
+unfolding key_of
+returns-in-5 c =
+    rw c.in-5.is
+
+pub returns-in-6 : goal.returns-in-6
+unfolding key_of
+returns-in-6 c =
+    rw c.in-6.is
+
+pub returns-in-7 : goal.returns-in-7
+unfolding key_of
+returns-in-7 c =
+    rw c.in-7.is
+
+pub returns-in-8 : goal.returns-in-8
+unfolding key_of
+returns-in-8 c =
+    rw c.in-8.is
+
+pub returns-in-9 : goal.returns-in-9
+unfolding key_of
+returns-in-9 c =
+    rw c.in-9.is
+
+pub returns-in_default : goal.returns-in_default
+unfolding key_of
+returns-in_default c =
+    let e = c.in_default.in_default-own.rest in rw (
+      ne_eqb _ _ e.0.0.0.0.0.0.0.0.1,
+      ne_eqb _ _ e.0.0.0.0.0.0.0.1,
+      ne_eqb _ _ e.0.0.0.0.0.0.1,
+      ne_eqb _ _ e.0.0.0.0.0.1,
+      ne_eqb _ _ e.0.0.0.0.1,
+      ne_eqb _ _ e.0.0.0.1,
+      ne_eqb _ _ e.0.0.1,
+      ne_eqb _ _ e.0.1,
+      ne_eqb _ _ e.1,
+    )

@@ -1,0 +1,30 @@
+-- `put_tail` meets its contract: the base window, the hold, what is half read and the spans, one after the other.
+-- Assumes nothing.
+use Prim.Native.Nat.{ℕ, ◌+◌}
+use native.Mathlib.Omega.{arith}
+use mathlib.Core.Path.{refl, ap}
+use borrow.Author.Rules.{rules}
+use Rattle.record_bytes.specs.Bytes.{at_hold, tail_bytes}
+use Rattle.record_write.proofs.Laid.{known, after, ends, hold_length_lem}
+use Rattle.record_write.proofs.put_tail.Goals as goal
+
+-- no put has changed the length
+pub put_spans-requires : goal.put_spans-requires
+put_spans-requires c =
+    omega (
+      arith,
+      c.put-3.auto.1.0,
+      c.put-2.auto.1.0,
+      c.put.auto.1.0,
+      c.requires,
+    )
+
+pub returns : goal.returns
+unfolding tail_bytes
+returns c =
+    let slots = c.half_bytes-c.ensures in
+    after refl (known c.base_bytes-a.ensures c.put.ensures)
+    (after (ap (λ (n : ℕ). at_hold + n) (hold_length_lem _))
+    (known c.hold_bytes-b.ensures c.put-2.ensures)
+    (after refl (known slots c.put-3.ensures)
+    (ends c.put_spans.ensures)))

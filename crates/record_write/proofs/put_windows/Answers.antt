@@ -1,0 +1,14 @@
+-- `put_windows` meets its contract: a window's bytes after the other's. Assumes nothing.
+use mathlib.Core.Path.{refl}
+use borrow.Author.Rules.{rules}
+use Rattle.record_bytes.specs.Bytes.{windows_bytes}
+use Rattle.record_write.proofs.Laid.{known, after}
+use Rattle.record_write.proofs.put_windows.Goals as goal
+
+pub returns : goal.returns
+unfolding windows_bytes
+returns c =
+    after refl (known c.window_bytes-a.ensures c.put.ensures)
+    (after refl (known c.window_bytes-b.ensures c.put-2.ensures)
+    (after refl (known c.window_bytes-c.ensures c.put-3.ensures)
+    (known c.window_bytes-d.ensures c.put-4.ensures)))

@@ -1,0 +1,7 @@
+-- `is_ours` meets its contract. Assumes nothing.
+use borrow.Author.Rules.{rules}
+use Rattle.telegrams.proofs.is_ours.Goals as goal
+
+pub returns : goal.returns
+returns c =
+    rw c.wide.ensures
