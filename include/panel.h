@@ -5,7 +5,7 @@
  * A pointer is valid for the length given with it (with length 0 it may be null);
  * what a call may write, a parameter without const, overlaps no other parameter.
  *
- * Link: `rt staticlib panel_c` writes target/staticlib/libpanel_c.a (x86-64), and
+ * Link: `tools/archive panel_c` writes target/staticlib/libpanel_c.a (x86-64), and
  * `cc yours.c target/staticlib/libpanel_c.a` needs no other library. examples/
  * has a receiver. The numbers are document 01's; docs/RECORD.md has the record,
  * docs/MANUAL.md the commands. They are document 01's with document 02's orders 1

@@ -19,7 +19,7 @@ loop-i-preserved c =
     let head = c.loop-i in
     let clearing = c.clear_row in (
       omega arith,
-      omega (arith, clearing.auto.1.0),
+      omega (arith, clearing.auto.mem),
       rect_turn _ _ _ _ _ _ _ _ _ _ head.invariant.2 clearing.ensures (λ j b hj. refl),
     )
 

@@ -1,5 +1,4 @@
 -- `numbers::answered_by` meets its contract: it asks the outcome's number. Assumes nothing.
-use borrow.Author.Rules.{rules}
 use borrow.Author.Tests.{le-leb, lt-leb}
 use Rattle.paper.specs.Numbers.{answered_by}
 use Rattle.numbers.proofs.answered_by.Goals as goal

@@ -1,5 +1,4 @@
 -- `numbers::carried_by` meets its contract: it asks the outcome's number. Assumes nothing.
-use borrow.Author.Rules.{rules}
 use borrow.Author.Tests.{eq-eqb, ne_eqb}
 use Rattle.paper.specs.Numbers.{carried_by}
 use Rattle.numbers.proofs.carried_by.Goals as goal

@@ -13,9 +13,9 @@ pub put_spans-requires : goal.put_spans-requires
 put_spans-requires c =
     omega (
       arith,
-      c.put-3.auto.1.0,
-      c.put-2.auto.1.0,
-      c.put.auto.1.0,
+      c.put-3.auto.to,
+      c.put-2.auto.to,
+      c.put.auto.to,
       c.requires,
     )
 

@@ -1,5 +1,4 @@
 -- `found` meets its contract: a good telegram lies in the piece. Assumes nothing.
-use borrow.Author.Rules.{rules}
 use native.Mathlib.Omega.{arith}
 use Rattle.laws_telegrams.proofs.Good.{good-framed}
 use Rattle.telegrams.proofs.found.Goals as goal

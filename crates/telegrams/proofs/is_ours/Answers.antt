@@ -1,5 +1,4 @@
 -- `is_ours` meets its contract. Assumes nothing.
-use borrow.Author.Rules.{rules}
 use Rattle.telegrams.proofs.is_ours.Goals as goal
 
 pub returns : goal.returns

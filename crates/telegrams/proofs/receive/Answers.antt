@@ -1,5 +1,4 @@
 -- `receive` meets its contract: what is found lies in the piece. Assumes nothing.
-use borrow.Author.Rules.{rules}
 use mathlib.Core.Path.{ap, ◌∙◌}
 use Rattle.paper.specs.declared.Received.{Received}
 use Rattle.paper.specs.Numbers.{refusal_number}

@@ -1,9 +1,6 @@
 -- `frame` meets its contract: it goes past one place after another at which no telegram's bytes are. Assumes nothing.
 use mathlib.Core.Path.{sym, ◌∙◌}
-use Prim.Native.Nat.{◌-◌}
-use native.Mathlib.Omega.{arith}
-use lib.ListN.{length}
-use Rattle.telegrams_good.proofs.Turns.{Passed, none_passed, one_passed, framed_there, framed_nowhere}
+use Rattle.telegrams_good.proofs.Turns.{none_passed, one_passed, framed_there, framed_nowhere}
 use Rattle.telegrams_good.proofs.frame.Goals as goal
 
 pub loop-place-init : goal.loop-place-init

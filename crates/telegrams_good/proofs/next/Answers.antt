@@ -1,10 +1,9 @@
 -- `next` meets its contract. Assumes nothing.
 use mathlib.Core.Path.{refl, sym, ap, ◌∙◌}
-use Prim.Native.Nat.{ℕ, ◌+◌, ◌-◌}
+use Prim.Native.Nat.{ℕ, ◌+◌}
 use native.Mathlib.Omega.{arith}
-use lib.ListN.{length}
 use Rattle.laws_telegrams.proofs.Search.{first_end}
-use Rattle.telegrams_good.proofs.Turns.{Comes, comes_first, framed_here, Turn, first_turn, ahead, some_left, found_here, bad_here, next-turn, next_place}
+use Rattle.telegrams_good.proofs.Turns.{comes_first, framed_here, first_turn, ahead, some_left, found_here, bad_here, next-turn, next_place}
 use Rattle.telegrams_good.proofs.next.Goals as goal
 
 pub places-init : goal.places-init

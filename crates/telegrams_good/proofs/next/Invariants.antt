@@ -1,10 +1,7 @@
 -- `next` meets its contract. Assumes nothing.
-use mathlib.Core.Path.{refl, sym, ap, ◌∙◌}
-use Prim.Native.Nat.{ℕ, ◌+◌, ◌-◌}
-use native.Mathlib.Omega.{arith}
+use Prim.Native.Nat.{◌-◌}
 use lib.ListN.{length}
-use Rattle.laws_telegrams.proofs.Search.{first_end}
-use Rattle.telegrams_good.proofs.Turns.{Comes, comes_first, framed_here, Turn, first_turn, ahead, some_left, found_here, bad_here, next-turn, next_place}
+use Rattle.telegrams_good.proofs.Turns.{Comes, Turn}
 use Rattle.telegrams_good.proofs.next.Given as goal
 
 abbrev pub invariant-bytes : goal.invariant-bytes

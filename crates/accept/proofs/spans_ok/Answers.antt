@@ -9,23 +9,15 @@ use Rattle.paper.specs.declared.Span.{Span}
 use Rattle.paper.specs.Strokes.{no_span}
 use Rattle.paper.specs.Bounds.{span_ok, spans_ok}
 use Rattle.laws_memory.proofs.Spans.{two_spans}
-use Rattle.accept.proofs.spans_ok.Statement.{statement}
-use Rattle.accept.proofs.spans_ok.Tie as tie
+use Rattle.accept.proofs.spans_ok.Goals as goal
 
-each-ok : (g : Module) (ps : List Span) → length ps ≡ 2
+each_ok : (g : Module) (ps : List Span) → length ps ≡ 2
     → (span_ok g (get_or ps 0 no_span) && span_ok g (get_or ps 1 no_span)) ≡ spans_ok g ps
-each-ok g ps h =
+each_ok g ps h =
     ap (λ (b : Bool). span_ok g (get_or ps 0 no_span) && b) (sym (and-true (span_ok g (get_or ps 1 no_span))))
     ∙ ap (spans_ok g) (two_spans ps h)
 
-pub spans-ok-spec : {M : Type 1} → statement M
-spans-ok-spec =
-    tie.close
-    (tie.spec
-    (λ c. search rules)
-    (λ c κs. tt)
-    (λ c. search rules)
-    (λ c κs. tt)
-    (λ c.
-    rw (c.before.before.span-ok.ensures, c.span-ok2.ensures)
-    (each-ok _ c.before.before.before.before.args.t2 (search rules))))
+pub returns : goal.returns
+returns c =
+    rw (c.span_ok.ensures, c.span_ok-2.ensures)
+    (each_ok _ c.args.ps (search rules))

@@ -1,0 +1,12 @@
+-- `is_written` meets its contract: the other bytes are those of their state. Assumes nothing.
+use borrow.Author.Rules.{rules}
+use mathlib.Core.Path.{ap, ◌∙◌}
+use Rattle.record_bytes.specs.Bytes.{slot_bytes}
+use Rattle.record_read.proofs.Written.{both_tested}
+use Rattle.record_read.proofs.is_written.Goals as goal
+
+pub returns : goal.returns
+returns c =
+    both_tested c.args.l.now (λ k. (c.shared_slice_known-1.given k).fits) c.args.hold c.args.half c.requires
+    c.hold_bytes-held.ensures (c.slot_bytes-read.ensures ∙ ap slot_bytes c.half_slots.ensures)
+    c.is_at.ensures c.is_at-2.ensures
