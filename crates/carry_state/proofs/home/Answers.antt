@@ -37,10 +37,10 @@ ends-requires c =
 
 pub returns : goal.returns
 unfolding asks carried_out
-returns c =
-    returns c font = says
+returns c font =
+    says
     (ends_at c.ends.ensures
-    (c.before.with-view.ensures
-    ∙ ap (λ (v : View). with_view c.before.before.before.before.args.s v)
-    (c.before.before.to.ensures ∙ ap (λ (v : View). home_of v) c.before.before.before.view_of.ensures)))
+    (c.with_view.ensures
+    ∙ ap (λ (v : View). with_view c.args.s v)
+    (c.to-to.ensures ∙ ap (λ (v : View). home_of v) c.view_of-view.ensures)))
     (is_10 _ font _ Home (record { carried = refl; owner = refl; domain = refl; defined = refl; room = refl; stored = refl }))

@@ -16,6 +16,6 @@ ends-requires c =
 
 pub returns : goal.returns
 unfolding asks carried_out
-returns c =
-    returns c font = says (ends_at c.ends.ensures c.before.in-mode.ensures)
+returns c font =
+    says (ends_at c.ends.ensures c.in_mode.ensures)
     (is_10 _ font _ (Mode _) (record { carried = refl; owner = refl; domain = refl; defined = refl; room = refl; stored = refl }))

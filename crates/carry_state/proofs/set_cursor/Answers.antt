@@ -27,19 +27,16 @@ ends-requires c =
 
 pub returns-then-inside_window : goal.returns-then-inside_window
 unfolding asks carried_out
-returns-then-inside_window c =
-    returns c font =
-    let found = c.before.before in
-    let tested = found.before in
-    let a = tested.before.before.args in
+returns-then-inside_window c font =
+    let a = c.args in
     says
     (ends_at c.ends.ensures
-    (c.before.at-cursor.ensures ∙ ap (λ (k : Cursor). at_cursor a.s (cursor a.x a.y k.mode)) found.cursor-of.ensures))
+    (c.at_cursor.ensures ∙ ap (λ (k : Cursor). at_cursor a.s (cursor a.x a.y k.mode)) c.cursor_of-c.ensures))
     (is_10 _ font _ (CursorSet _ _)
     (record {
       carried = refl;
       owner = refl;
-      domain = ap not (sym tested.before.inside-window.ensures ∙ tested.if1.true);
+      domain = ap not (sym c.inside_window.ensures ∙ c.if-inside_window.true);
       defined = refl;
       room = refl;
       stored = refl;
@@ -51,6 +48,6 @@ ends-requires-2 c =
 
 pub returns : goal.returns
 unfolding asks carried_out
-returns c =
-    returns-2 c font = says c.ends2.ensures
-    (is_11 _ font _ (CursorSet _ _) refl refl (ap not (sym c.before.before.inside-window.ensures ∙ c.before.if1.false)))
+returns c font =
+    says c.ends-2.ensures
+    (is_11 _ font _ (CursorSet _ _) refl refl (ap not (sym c.inside_window.ensures ∙ c.if-inside_window.false)))
