@@ -1,0 +1,8 @@
+-- `images_marks::mark_row` meets its contract. Assumes nothing.
+use Rattle.images_marks.specs.Marks.{row_mark}
+use Rattle.images_marks.proofs.mark_row.Goals as goal
+
+pub returns : goal.returns
+unfolding row_mark
+returns c =
+    rw (c.mark.ensures, c.least-end.ensures, c.least-top.ensures, c.least-right.ensures, c.least-left.ensures)
