@@ -1,0 +1,54 @@
+-- `text::character` meets its contract. Where it does not fit, the wrap keeps its range, so that it can be drawn afterwards.
+-- Assumes nothing.
+use Prim.Native.Nat.{◌+◌}
+use native.Mathlib.Omega.{arith}
+use borrow.Author.Tests.{le-leb, lt-leb, eq-eqb, ne_eqb}
+use Rattle.paper.specs.Downloads.{faces}
+use Rattle.paper.specs.Cells.{cell_width, cell_height}
+use Rattle.paper.specs.Moves.{ht_of, draw_tab, blank_tab, character_of}
+use Rattle.laws_state.proofs.Moves.{ht_kept, blank_kept}
+use Rattle.moves.proofs.Done.{does_after}
+use Rattle.text_cells.proofs.Steps.{sized_room}
+use Rattle.text.proofs.Steps.{ready_after}
+use Rattle.text.proofs.character.Goals as goal
+
+pub returns-then-x-c : goal.returns-then-x-c
+unfolding character_of
+returns-then-x-c c =
+    let a = c.args in
+    rw (le-leb (a.p.view.x + cell_width a.g a.cell.blanks a.cell.style) a.p.view.width (omega arith))
+    c.draw_tab.ensures
+
+pub draw_tab-requires-then-mode-eq3 : goal.draw_tab-requires-then-mode-eq3
+draw_tab-requires-then-mode-eq3 c =
+    ready_after c.args.cell c.args.p.view _ c.tab-q.ensures
+    (ht_kept c.args.g c.args.p.view _ _ c.requires.1.0) c.tab-q.auto.mem c.requires
+
+pub returns-then-mode-eq3 : goal.returns-then-mode-eq3
+unfolding character_of
+returns-then-mode-eq3 c =
+    let a = c.args in
+    let size = c.requires.1.1.0.cell in
+    let width = cell_width a.g a.cell.blanks a.cell.style in
+    rw (lt-leb (a.p.view.x + width) a.p.view.width (omega arith), eq-eqb _ _ c.if-mode-eq3.true)
+    (does_after (ht_of a.g a.p.view width (cell_height a.cell.style))
+    (draw_tab a.g (faces a.font.now a.own.now) a.cell.blanks a.cell.style a.code)
+    (rw (size.columns, size.rows) at c.tab-q.ensures) c.draw_tab-then-mode-eq3.ensures)
+
+pub draw_tab-requires-2 : goal.draw_tab-requires-2
+draw_tab-requires-2 c =
+    let a = c.args in
+    ready_after a.cell a.p.view _ c.blank_tab-q.ensures
+    (blank_kept a.g a.cell.blanks a.cell.style a.p.view (sized_room a.cell c.requires.1.1.0.cell c.requires.1.0))
+    c.blank_tab-q.auto.mem c.requires
+
+pub returns : goal.returns
+unfolding character_of
+returns c =
+    let a = c.args in
+    let size = c.requires.1.1.0.cell in
+    let width = cell_width a.g a.cell.blanks a.cell.style in
+    rw (lt-leb (a.p.view.x + width) a.p.view.width (omega arith), ne_eqb _ _ c.if-mode-eq3.false)
+    (does_after (blank_tab a.g a.cell.blanks a.cell.style a.p.view)
+    (draw_tab a.g (faces a.font.now a.own.now) a.cell.blanks a.cell.style a.code)
+    c.blank_tab-q.ensures c.draw_tab-2.ensures)
