@@ -11,7 +11,6 @@ use Rattle.carry_dots.proofs.Wrote.{does_answer, does_quiet, ready_half}
 use Rattle.carry_command.specs.Heavy.{heavy}
 use Rattle.carry.proofs.Kept.{kept_half}
 use Rattle.carry.proofs.Handed.{is_unknown}
-use borrow.Enum.Refused.{opened}
 use Rattle.carry.proofs.take.Goals as goal
 
 pub carry_out-d-requires : goal.carry_out-d-requires
@@ -47,4 +46,4 @@ returns-in-Cancels c font =
 pub returns-in_default : goal.returns-in_default
 unfolding take_of take_store
 returns-in_default c font =
-    rw (is_unknown _ c.args.r c.requires.1.1 (opened c.in_default.in_default-own.keys5)) (does_answer c.ends-in_default.ensures refl, refl)
+    rw (is_unknown _ c.args.r c.requires.1.1 c.in_default.in_default-own.keys5) (does_answer c.ends-in_default.ensures refl, refl)
