@@ -6,9 +6,10 @@ mod calls;
 
 ghost use Rattle.std.specs.Prelude.{◌≡◌, length};
 
-use libc::{STDIN_FILENO, STDOUT_FILENO};
 use record_bytes::RECORD;
 use replay_input::Run;
+use std::io;
+use std::io::Print;
 
 // Memory, glass and record of a new world: a start with no memory leaves the initial state, nothing marked.
 fn begin(run: Run, record: &mut [u8], mem: &mut [u8], glass: &mut [u8]) -> Run {
@@ -90,13 +91,20 @@ fn room() -> [u8; 1048576]
     [0; 1048576]
 }
 
-fn main() {
+// Room for memory or glass.
+fn buffer() -> [u8; 4096]
+    ensures { 4096 ≡ length result }
+{
+    [0; 4096]
+}
+
+fn main(rt: HostRuntime) -> io::Result<()> {
     let mut room = room();
     let mut record = [0u8; RECORD];
-    let mut mem = io::buffer();
-    let mut glass = io::buffer();
-    let n = io::read_full(STDIN_FILENO, &mut room);
+    let mut mem = buffer();
+    let mut glass = buffer();
+    let n = host_io::read_full(&mut rt.stdin(), &mut room)?;
     let run = play_all(&room[..n], &mut record, &mut mem, &mut glass);
-    io::print_decimal(STDOUT_FILENO, run.calls);
-    replay_input::write_what(run.differs);
+    rt.print(run.calls)?;
+    replay_input::write_what(&rt, run.differs)
 }

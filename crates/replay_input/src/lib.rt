@@ -4,7 +4,8 @@
 
 ghost use Rattle.std.specs.Prelude.{◌^◌, ◌<◌, ◌≤◌, length};
 
-use libc::STDOUT_FILENO;
+use std::io;
+use std::io::Print;
 
 // ---- the stored bytes
 
@@ -178,16 +179,15 @@ pub fn fill(buffer: &mut [u8], b: u8) {
 }
 
 // What the last call differs in, in words.
-pub fn write_what(differs: u8) {
-    let fd = STDOUT_FILENO;
+pub fn write_what(rt: &impl Print, differs: u8) -> io::Result<()> {
     match differs {
-        0 => io::write_all(fd, b" calls played, no difference\n"),
-        1 => io::write_all(fd, b" calls played, the last with another answer\n"),
-        2 => io::write_all(fd, b" calls played, the last with another outcome\n"),
-        3 => io::write_all(fd, b" calls played, the last with another count\n"),
-        4 => io::write_all(fd, b" calls played, the last left another memory\n"),
-        5 => io::write_all(fd, b" calls played, the last left another glass\n"),
-        6 => io::write_all(fd, b" calls played, the last left another record\n"),
-        _ => io::write_all(fd, b" calls played, the last with another place\n"),
-    };
+        0 => rt.write_all(b" calls played, no difference\n"),
+        1 => rt.write_all(b" calls played, the last with another answer\n"),
+        2 => rt.write_all(b" calls played, the last with another outcome\n"),
+        3 => rt.write_all(b" calls played, the last with another count\n"),
+        4 => rt.write_all(b" calls played, the last left another memory\n"),
+        5 => rt.write_all(b" calls played, the last left another glass\n"),
+        6 => rt.write_all(b" calls played, the last left another record\n"),
+        _ => rt.write_all(b" calls played, the last with another place\n"),
+    }
 }

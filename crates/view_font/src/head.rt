@@ -78,7 +78,7 @@ fn place_of_code(high: u8, low: u8) -> usize
 fn place_of_word(word: &[u8]) -> usize
     ensures { result ≤ 225 }
 {
-    if check::same(word, b"others") {
+    if word == b"others".as_slice() {
         return OTHERS;
     }
     if word.len() != 2 {

@@ -7,7 +7,8 @@ mod store;
 
 ghost use Rattle.std.specs.Prelude.{◌≡◌, ◌<◌, ◌≤◌, length};
 
-use libc::{STDERR_FILENO, STDIN_FILENO, STDOUT_FILENO};
+use std::io;
+use std::io::Print;
 use store::PLACES;
 
 // What is wrong with a line.
@@ -125,6 +126,21 @@ fn without_return(text: &[u8], at: usize, end: usize) -> usize
     end
 }
 
+// Where the line ends that begins at `at`: at its line feed, or with the text.
+fn line_end(text: &[u8], at: usize) -> usize
+    requires { at ≤ length text.now }
+    ensures { (at ≤ result) × (result ≤ length text.now) }
+{
+    let mut i = at;
+    while i < text.len() {
+        if text[i] == b'\n' {
+            return i;
+        }
+        i += 1;
+    }
+    i
+}
+
 // What is wrong with a text, and in which line.
 #[derive(Clone, Copy)]
 struct Verdict {
@@ -141,7 +157,7 @@ fn read_all(text: &[u8], dots: &mut [u8], store: &mut [u8]) -> Verdict
     let mut at = 0;
     while at < text.len() {
         line = std::num::wrapping_add_u64(line, 1);
-        let end = bytes::scan::find(text, at, text.len(), b'\n');
+        let end = line_end(text, at);
         let stop = without_return(text, at, end);
         r = take_line(&text[at..stop], r, dots, store);
         let flaw = r.flaw;
@@ -162,36 +178,42 @@ fn read_all(text: &[u8], dots: &mut [u8], store: &mut [u8]) -> Verdict
     }
 }
 
-// Says what is wrong, on standard error.
-fn complain(line: u64, flaw: Flaw) {
-    let fd = STDERR_FILENO;
-    io::write_all(fd, b"line ");
-    io::print_decimal(fd, line);
+// Says what is wrong.
+fn complain(err: &impl Print, line: u64, flaw: Flaw) -> io::Result<()> {
+    err.write_all(b"line ")?;
+    err.print(line)?;
     match flaw {
-        Flaw::None => true,
-        Flaw::BadCode => io::write_all(fd, b": neither a code, 20 to FF, nor the word others\n"),
-        Flaw::Twice => io::write_all(fd, b": a second picture of this code\n"),
-        Flaw::BadRow => io::write_all(fd, b": not five dots, each # or .\n"),
-        Flaw::CutShort => io::write_all(fd, b": the text ends inside a picture of seven lines\n"),
-    };
+        Flaw::None => Ok(()),
+        Flaw::BadCode => err.write_all(b": neither a code, 20 to FF, nor the word others\n"),
+        Flaw::Twice => err.write_all(b": a second picture of this code\n"),
+        Flaw::BadRow => err.write_all(b": not five dots, each # or .\n"),
+        Flaw::CutShort => err.write_all(b": the text ends inside a picture of seven lines\n"),
+    }
 }
 
-fn main() {
-    let mut text = io::large_buffer();
+// Room for the longest text, and a byte more.
+fn room() -> [u8; 65536]
+    ensures { 65536 ≡ length result }
+{
+    [0; 65536]
+}
+
+fn main(rt: HostRuntime) -> io::Result<()> {
+    let mut text = room();
     let mut dots = [0u8; 35];
     let mut store = [0u8; 1350];
     let mut font = [0u8; 1120];
-    let n = io::read_full(STDIN_FILENO, &mut text);
+    let n = host_io::read_full(&mut rt.stdin(), &mut text)?;
     if n == 65536 {
-        io::write_all(STDERR_FILENO, b"a font's text of more than 65535 bytes\n");
-        return;
+        return rt
+            .stderr()
+            .write_all(b"a font's text of more than 65535 bytes\n");
     }
     let v = read_all(&text[..n], &mut dots, &mut store);
     let flaw = v.flaw;
     if !is_fine(flaw) {
-        complain(v.line, flaw);
-        return;
+        return complain(&rt.stderr(), v.line, flaw);
     }
     store::font_of(&store, &mut font);
-    io::write_all(STDOUT_FILENO, &font);
+    rt.stdout().write_all(&font)
 }

@@ -4,66 +4,85 @@
 
 ghost use Rattle.std.specs.Prelude.{◌≡◌, length};
 
-use libc::{STDIN_FILENO, STDOUT_FILENO};
+use std::env::Env;
+use std::io;
+use std::io::Print;
 
 // Writes the glass in a frame, and the note below it.
-fn write_drawn(glass: &[u8], note: &[u8])
+fn write_drawn(rt: &impl Print, glass: &[u8], note: &[u8]) -> io::Result<()>
     requires { length glass.now ≡ 224 }
 {
     let mut out = [0u8; 4096];
     let n = view_picture::draw(&mut out, glass);
-    io::write_all(STDOUT_FILENO, view_text::part(&out, 0, n));
-    io::write_all(STDOUT_FILENO, note);
+    rt.write_all(view_text::part(&out, 0, n))?;
+    rt.write_all(note)
 }
 
 // Writes the glass as a PBM file.
-fn write_pbm(glass: &[u8])
+fn write_pbm(rt: &impl Print, glass: &[u8]) -> io::Result<()>
     requires { length glass.now ≡ 224 }
 {
     let mut out = [0u8; 256];
     let n = view_picture::pbm(&mut out, glass);
-    io::write_all(STDOUT_FILENO, view_text::part(&out, 0, n));
+    rt.write_all(view_text::part(&out, 0, n))
 }
 
 // Writes the glass as a word asks: `draw` or `pbm`.
-fn write_as(word: &[u8], glass: &[u8], note: &[u8])
+fn write_as(
+    rt: &impl Print,
+    err: &impl Print,
+    word: &[u8],
+    glass: &[u8],
+    note: &[u8],
+) -> io::Result<()>
     requires { length glass.now ≡ 224 }
 {
-    if check::same(word, b"draw") {
-        write_drawn(glass, note);
-        return;
+    if word == b"draw".as_slice() {
+        return write_drawn(rt, glass, note);
     }
-    if check::same(word, b"pbm") {
-        write_pbm(glass);
-        return;
+    if word == b"pbm".as_slice() {
+        return write_pbm(rt, glass);
     }
-    view_io::complain(b"an argument that is neither draw nor pbm");
+    view_io::complain(err, b"an argument that is neither draw nor pbm")
 }
 
-// Writes the glass as argument i asks.
-fn write_by(i: usize, glass: &[u8], note: &[u8])
+// Writes the glass as argument i asks, and answers whether there is one.
+fn write_by(
+    rt: &(impl Env + Print),
+    err: &impl Print,
+    i: usize,
+    glass: &[u8],
+    note: &[u8],
+) -> io::Result<bool>
     requires { length glass.now ≡ 224 }
 {
     let mut word = [0u8; 16];
-    let n = os::arg(i, &mut word);
-    write_as(&word[..n], glass, note);
+    let Some(n) = host_io::argument(rt, i, &mut word) else {
+        return Ok(false);
+    };
+    write_as(rt, err, &word[..n], glass, note)?;
+    Ok(true)
 }
 
 // Writes the glass once for each of the program's arguments.
-fn write_all(glass: &[u8], note: &[u8])
+fn write_all(rt: &(impl Env + Print), err: &impl Print, glass: &[u8], note: &[u8]) -> io::Result<()>
     requires { length glass.now ≡ 224 }
 {
-    for i in 1..os::arg_count() {
-        write_by(i, glass, note);
+    for i in 1..usize::MAX {
+        if !write_by(rt, err, i, glass, note)? {
+            break;
+        }
     }
+    Ok(())
 }
 
-fn main() {
+fn main(rt: HostRuntime) -> io::Result<()> {
     let mut glass = [0u8; 224];
     let mut note = [0u8; 256];
-    if !view_io::read_glass(&mut glass) {
-        return;
+    let err = rt.stderr();
+    if !view_io::read_glass(&mut rt.stdin(), &err, &mut glass)? {
+        return Ok(());
     }
-    let n = io::read_full(STDIN_FILENO, &mut note);
-    write_all(&glass, &note[..n]);
+    let n = host_io::read_full(&mut rt.stdin(), &mut note)?;
+    write_all(&rt, &err, &glass, &note[..n])
 }

@@ -1,33 +1,49 @@
-// What the viewer's programs share: the font and then a stream on standard input, or a glass; and complaints on standard error. A
-// program that complains writes nothing else. It uses the kit's input and output.
+// What the viewer's programs share: the font and then a stream on the input, or a glass; and complaints, which the programs put on standard
+// error. A program that complains writes nothing else. It uses the library's readers and writers, and hands back an error of theirs.
 #![tactic(auto)]
 
 ghost use Rattle.std.specs.Prelude.{◌≡◌, length};
 
-use libc::{STDERR_FILENO, STDIN_FILENO};
+use std::io;
+use std::io::{Print, Read};
 
 // Says what is wrong.
-pub fn complain(text: &[u8]) {
-    io::write_all(STDERR_FILENO, text);
-    io::write_all(STDERR_FILENO, b"\n");
+pub fn complain(err: &impl Print, text: &[u8]) -> io::Result<()> {
+    err.write_all(text)?;
+    err.write_all(b"\n")
 }
 
 // Fills a buffer from the input, and answers whether all of it has come.
-fn read_whole(to: &mut [u8], complaint: &[u8]) -> bool {
-    let n = io::read_full(STDIN_FILENO, to);
+fn read_whole(
+    from: &mut impl Read,
+    err: &impl Print,
+    to: &mut [u8],
+    complaint: &[u8],
+) -> io::Result<bool> {
+    let n = host_io::read_full(from, to)?;
     if n == to.len() {
-        return true;
+        return Ok(true);
     }
-    complain(complaint);
-    false
+    complain(err, complaint)?;
+    Ok(false)
 }
 
-pub fn read_font(font: &mut [u8]) -> bool {
-    read_whole(font, b"the input begins with no font of 1120 bytes")
+pub fn read_font(from: &mut impl Read, err: &impl Print, font: &mut [u8]) -> io::Result<bool> {
+    read_whole(
+        from,
+        err,
+        font,
+        b"the input begins with no font of 1120 bytes",
+    )
 }
 
-pub fn read_glass(glass: &mut [u8]) -> bool {
-    read_whole(glass, b"the input begins with no glass of 224 bytes")
+pub fn read_glass(from: &mut impl Read, err: &impl Print, glass: &mut [u8]) -> io::Result<bool> {
+    read_whole(
+        from,
+        err,
+        glass,
+        b"the input begins with no glass of 224 bytes",
+    )
 }
 
 // Room for the longest stream, and a byte more.
@@ -45,14 +61,14 @@ pub struct Input {
 }
 
 // Reads what follows the font. It is too long if it fills the room.
-pub fn read_rest(room: &mut [u8]) -> Input {
-    let n = io::read_full(STDIN_FILENO, room);
+pub fn read_rest(from: &mut impl Read, err: &impl Print, room: &mut [u8]) -> io::Result<Input> {
+    let n = host_io::read_full(from, room)?;
     if n < room.len() {
-        return Input { ok: true, bytes: n };
+        return Ok(Input { ok: true, bytes: n });
     }
-    complain(b"more than 1048576 bytes");
-    Input {
+    complain(err, b"more than 1048576 bytes")?;
+    Ok(Input {
         ok: false,
         bytes: 0,
-    }
+    })
 }

@@ -3,11 +3,12 @@
 // view_line for the lines.
 #![tactic(auto)]
 
-ghost use Rattle.std.specs.Prelude.{◌≡◌, true, ◌+◌, ◌<◌, ◌≤◌, length};
+ghost use Rattle.std.specs.Prelude.{◌≡◌, true, ◌+◌, ◌<◌, ◌≤◌, length, IfOk};
 ghost use Rattle.paper.specs.Telegrams.{good};
 
-use libc::STDOUT_FILENO;
 use paper::Received;
+use std::io;
+use std::io::Print;
 
 // How the input is read: as one stream, or as a link at an address.
 #[derive(Clone, Copy)]
@@ -25,19 +26,26 @@ pub struct Part {
 }
 
 // Writes the line of bytes that are no telegram's, if there are any.
-fn write_stretch(place: usize, bytes: &[u8]) {
+fn write_stretch(rt: &impl Print, place: usize, bytes: &[u8]) -> io::Result<()> {
     let mut out = [0u8; 160];
     if bytes.len() > 0 {
         let n = view_line::put_stretch(&mut out, place, bytes);
-        io::write_all(STDOUT_FILENO, view_text::part(&out, 0, n));
+        rt.write_all(view_text::part(&out, 0, n))?;
     }
+    Ok(())
 }
 
 // Writes the line of a telegram.
-fn write_telegram(place: usize, bytes: &[u8], to: u8, ours: bool) {
+fn write_telegram(
+    rt: &impl Print,
+    place: usize,
+    bytes: &[u8],
+    to: u8,
+    ours: bool,
+) -> io::Result<()> {
     let mut out = [0u8; 160];
     let n = view_line::put_telegram(&mut out, place, bytes, to, ours);
-    io::write_all(STDOUT_FILENO, view_text::part(&out, 0, n));
+    rt.write_all(view_text::part(&out, 0, n))
 }
 
 // Where the bytes that are fed of a telegram end: behind its data, or before them if it is another's.
@@ -52,49 +60,49 @@ fn fed_end(t: Received, ours: bool) -> usize
 }
 
 // Writes the line of the good telegram at `place`, and answers what of it is fed.
-fn telegram_at(link: &[u8], place: usize, address: usize) -> Part
+fn telegram_at(rt: &impl Print, link: &[u8], place: usize, address: usize) -> io::Result<Part>
     requires { good link.now place ≡ true }
-    ensures { (result.end ≤ length link.now) × (place < result.after) }
+    ensures { IfOk result (λ p. (p.end ≤ length link.now) × (place < p.after)) }
 {
     let t = telegrams::found(link, place);
     let to = link[place + 1];
     let ours = telegrams::is_ours(to, address);
-    write_telegram(place, view_text::part(link, place, t.after), to, ours);
-    Part {
+    write_telegram(rt, place, view_text::part(link, place, t.after), to, ours)?;
+    Ok(Part {
         first: t.first,
         end: fed_end(t, ours),
         after: t.after,
-    }
+    })
 }
 
 // The next telegram from a place on, and what lies before it. Behind the last one nothing is fed.
-fn next_telegram(link: &[u8], place: usize, address: usize) -> Part
+fn next_telegram(rt: &impl Print, link: &[u8], place: usize, address: usize) -> io::Result<Part>
     requires { place < length link.now }
-    ensures { (result.end ≤ length link.now) × (place < result.after) }
+    ensures { IfOk result (λ p. (p.end ≤ length link.now) × (place < p.after)) }
 {
     let at = telegrams_good::next(link, place);
-    write_stretch(place, view_text::part(link, place, at));
+    write_stretch(rt, place, view_text::part(link, place, at))?;
     if at < link.len() {
-        return telegram_at(link, at, address);
+        return telegram_at(rt, link, at, address);
     }
-    Part {
+    Ok(Part {
         first: place,
         end: place,
         after: link.len(),
-    }
+    })
 }
 
 // The part that begins at `place` or, in a link, behind it.
-pub fn next_part(input: &[u8], place: usize, way: Way) -> Part
+pub fn next_part(rt: &impl Print, input: &[u8], place: usize, way: Way) -> io::Result<Part>
     requires { place < length input.now }
-    ensures { (result.end ≤ length input.now) × (place < result.after) }
+    ensures { IfOk result (λ p. (p.end ≤ length input.now) × (place < p.after)) }
 {
     if way.is_link {
-        return next_telegram(input, place, way.address);
+        return next_telegram(rt, input, place, way.address);
     }
-    Part {
+    Ok(Part {
         first: place,
         end: input.len(),
         after: input.len(),
-    }
+    })
 }

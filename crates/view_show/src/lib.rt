@@ -7,8 +7,9 @@ mod link;
 ghost use Rattle.paper.specs.Panel.{panel};
 ghost use Rattle.view_show.specs.Shown.{Shows, fed_fresh, shown_fresh};
 
-use libc::STDOUT_FILENO;
 use paper::Half;
+use std::io;
+use std::io::Print;
 use view_parts::Way;
 
 // What became of a stream or a link: the link's telegrams that were fed, commands carried out, those answered 11 to 19, bytes moved, and
@@ -136,13 +137,13 @@ fn put_end(out: &mut [u8], at: usize, half: bool) -> usize {
 }
 
 // Plays the input and writes its glass and its counts.
-pub fn show(font: &[u8], input: &[u8], way: Way) {
+pub fn show(rt: &impl Print, font: &[u8], input: &[u8], way: Way) -> io::Result<()> {
     let mut mem = [0u8; 1024];
     let mut store = [0u8; 144];
     let mut glass = [0u8; 224];
     let mut note = [0u8; 256];
     let c = play_as(way, font, input, &mut mem, &mut store, &mut glass);
     let n = put_note(&mut note, way, c);
-    io::write_all(STDOUT_FILENO, &glass);
-    io::write_all(STDOUT_FILENO, view_text::part(&note, 0, n));
+    rt.write_all(&glass)?;
+    rt.write_all(view_text::part(&note, 0, n))
 }

@@ -6,8 +6,9 @@
 
 ghost use Rattle.std.specs.Prelude.{◌≤◌, length};
 
-use libc::STDOUT_FILENO;
 use paper::{Outcome, State};
+use std::io;
+use std::io::Print;
 use view_parts::Way;
 
 // The panel's state, and of the command that is half read how many bytes are kept, and the place of its first.
@@ -19,10 +20,16 @@ struct Running {
 }
 
 // Writes the line of a command that begins at `place`.
-fn write_line(place: usize, command: &[u8], o: Outcome, s: State) {
+fn write_line(
+    rt: &impl Print,
+    place: usize,
+    command: &[u8],
+    o: Outcome,
+    s: State,
+) -> io::Result<()> {
     let mut out = [0u8; 160];
     let n = view_line::put(&mut out, place, command, o, s);
-    io::write_all(STDOUT_FILENO, view_text::part(&out, 0, n));
+    rt.write_all(view_text::part(&out, 0, n))
 }
 
 // Where the command begins whose next byte is at i: there, if none of its bytes is kept.
@@ -34,16 +41,24 @@ fn begun(from: usize, kept: usize, i: usize) -> usize {
 }
 
 // Writes the line of the command whose bytes are kept, if its last byte finished it, and answers how many are kept for the next.
-fn tell(command: &[u8], kept: usize, from: usize, o: Outcome, s: State) -> usize {
+fn tell(
+    rt: &impl Print,
+    command: &[u8],
+    kept: usize,
+    from: usize,
+    o: Outcome,
+    s: State,
+) -> io::Result<usize> {
     if numbers::outcome_number(o) == 9 {
-        return kept;
+        return Ok(kept);
     }
-    write_line(from, view_text::part(command, 0, kept), o, s);
-    0
+    write_line(rt, from, view_text::part(command, 0, kept), o, s)?;
+    Ok(0)
 }
 
 // Feeds the bytes of the input from `first` to before `end`.
 fn feed_part(
+    rt: &impl Print,
     font: &[u8],
     input: &[u8],
     first: usize,
@@ -52,7 +67,7 @@ fn feed_part(
     store: &mut [u8],
     command: &mut [u8],
     running: Running,
-) -> Running
+) -> io::Result<Running>
     requires { end ≤ length input.now }
 {
     let mut state = running.state;
@@ -66,21 +81,22 @@ fn feed_part(
         let f = panel::feed(mem, store, font, &input[i..next], state);
         let o = f.outcome;
         state = f.state;
-        kept = tell(command, kept, from, o, state);
+        kept = tell(rt, command, kept, from, o, state)?;
         i = next;
     }
-    Running { state, kept, from }
+    Ok(Running { state, kept, from })
 }
 
 // Feeds the input to a fresh panel with this memory and room for downloads, part by part.
 fn feed(
+    rt: &impl Print,
     font: &[u8],
     input: &[u8],
     way: Way,
     mem: &mut [u8],
     store: &mut [u8],
     command: &mut [u8],
-) -> Running {
+) -> io::Result<Running> {
     let a = panel::start(mem, store);
     let fresh = a.state;
     let mut running = Running {
@@ -90,27 +106,29 @@ fn feed(
     };
     let mut place = 0;
     while place < input.len() {
-        let part = view_parts::next_part(input, place, way);
+        let part = view_parts::next_part(rt, input, place, way)?;
         running = feed_part(
-            font, input, part.first, part.end, mem, store, command, running,
-        );
+            rt, font, input, part.first, part.end, mem, store, command, running,
+        )?;
         place = part.after;
     }
-    running
+    Ok(running)
 }
 
 // Feeds the input to a fresh panel and writes the lines. The longest command, a define of 224 characters, has 1,797 bytes.
-pub fn trace(font: &[u8], input: &[u8], way: Way) {
+pub fn trace(rt: &impl Print, font: &[u8], input: &[u8], way: Way) -> io::Result<()> {
     let mut mem = [0u8; 1024];
     let mut store = [0u8; 144];
     let mut command = [0u8; 2048];
-    let last = feed(font, input, way, &mut mem, &mut store, &mut command);
+    let last = feed(rt, font, input, way, &mut mem, &mut store, &mut command)?;
     if last.kept > 0 {
         write_line(
+            rt,
             last.from,
             view_text::part(&command, 0, last.kept),
             Outcome::Unfinished,
             last.state,
-        );
+        )?;
     }
+    Ok(())
 }

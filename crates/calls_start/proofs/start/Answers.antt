@@ -6,11 +6,6 @@ use Rattle.paper.specs.Panel.{memory_length}
 use Rattle.calls_start.proofs.Starts.{start_refused, start_accepted}
 use Rattle.calls_start.proofs.start.Goals as goal
 
--- the memory has its length
-whole : (c : goal.Else-mem-memory_length)
-    → let a = c.args in length a.mem.now ≡ memory_length a.g
-whole c = c.if-mem-memory_length.false ∙ c.memory_length.ensures
-
 pub initial_state-t-requires : goal.initial_state-t-requires
 initial_state-t-requires c =
     c.requires.1
@@ -26,10 +21,12 @@ returns-then-mem-memory_length c =
 
 pub erase-spans-requires : goal.erase-spans-requires
 erase-spans-requires c =
+    let whole : let a = c.args in length a.mem.now ≡ memory_length a.g = c.if-mem-memory_length.false ∙ c.memory_length.ensures in
     let u = c.requires.0 in
-    (record { size = whole c; small = u.small }, (u.columns_small, u.rows_small))
+    (record { size = whole; small = u.small }, (u.columns_small, u.rows_small))
 
 pub returns : goal.returns
 returns c =
-    start_accepted _ _ _ _ _ _ _ (whole c) c.initial_state-t.ensures c.erase-spans.ensures.1
+    let whole : let a = c.args in length a.mem.now ≡ memory_length a.g = c.if-mem-memory_length.false ∙ c.memory_length.ensures in
+    start_accepted _ _ _ _ _ _ _ whole c.initial_state-t.ensures c.erase-spans.ensures.1
     c.erase-spans.ensures.0 c.erase_all.ensures

@@ -15,8 +15,7 @@ loop-j-init c =
 
 pub loop-j-preserved : goal.loop-j-preserved
 unfolding cleared
-loop-j-preserved c =
-    (
+loop-j-preserved c = (
   omega arith,
   simp length-set (omega arith),
   row_turn _ _ _ _ _ _ _ _ _ c.at-a.ensures.0 c.loop-j.invariant.2 (omega arith) (omega arith) refl,

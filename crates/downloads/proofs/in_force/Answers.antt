@@ -1,5 +1,4 @@
 -- `downloads::in_force` meets its contract. Assumes nothing.
-use borrow.Author.Rules.{rules}
 use borrow.Author.Tests.{eq-eqb, ne_eqb}
 use Rattle.downloads.proofs.in_force.Goals as goal
 

@@ -1,9 +1,7 @@
 -- `downloads::place` meets its contract. The loop's invariant: the place is still to come. Assumes nothing.
-use mathlib.Core.Path.{◌≡◌, sym}
-use Prim.Native.Nat.{◌≤◌, ◌-◌}
+use mathlib.Core.Path.{sym}
 use native.Mathlib.Omega.{arith}
-use Rattle.paper.specs.Downloads.{places_in, seek, place}
-use Rattle.laws_downloads.proofs.Places.{holds, look_starts, look_here, look_on, look_ends}
+use Rattle.laws_downloads.proofs.Places.{look_starts, look_here, look_on, look_ends}
 use Rattle.downloads.proofs.place.Goals as goal
 
 pub loop-k-init : goal.loop-k-init

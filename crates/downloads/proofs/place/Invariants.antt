@@ -1,9 +1,8 @@
 -- `downloads::place` meets its contract. The loop's invariant: the place is still to come. Assumes nothing.
-use mathlib.Core.Path.{◌≡◌, sym}
+use mathlib.Core.Path.{◌≡◌}
 use Prim.Native.Nat.{◌≤◌, ◌-◌}
-use native.Mathlib.Omega.{arith}
 use Rattle.paper.specs.Downloads.{places_in, seek, place}
-use Rattle.laws_downloads.proofs.Places.{holds, look_starts, look_here, look_on, look_ends}
+use Rattle.laws_downloads.proofs.Places.{holds}
 use Rattle.downloads.proofs.place.Given as goal
 
 abbrev pub invariant-loop-k : goal.invariant-loop-k

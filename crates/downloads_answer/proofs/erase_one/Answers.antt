@@ -1,5 +1,4 @@
 -- `downloads_answer::erase_one` meets its contract: 15 while held, then 11, then 19. Assumes nothing.
-use borrow.Author.Rules.{rules}
 use mathlib.Core.Path.{refl, sym, ◌∙◌}
 use Rattle.paper.specs.Numbers.{outcome_number}
 use Rattle.downloads_answer.proofs.erase_one.Goals as goal

@@ -1,5 +1,4 @@
 -- `downloads_write::erase` meets its contract. Assumes nothing.
-use borrow.Author.Rules.{rules}
 use mathlib.Core.Path.{◌∙◌}
 use Rattle.paper.specs.Downloads.{erased}
 use Rattle.laws_downloads.proofs.Places.{place-le}

@@ -1,8 +1,6 @@
 -- `downloads_write::erase_all` meets its contract. The loop's invariant: the bytes so far are 0. Assumes nothing.
-use Prim.Native.Nat.{◌≤◌, ◌-◌}
 use native.Mathlib.Omega.{arith}
-use lib.ListN.{length}
-use Rattle.downloads_write.proofs.Turns.{Zeroed, zeroed_starts, zeroed_on, zeroed_ends}
+use Rattle.downloads_write.proofs.Turns.{zeroed_starts, zeroed_on, zeroed_ends}
 use Rattle.downloads_write.proofs.erase_all.Goals as goal
 
 pub loop-a-init : goal.loop-a-init

@@ -1,5 +1,4 @@
 -- `downloads_write::put` meets its contract. Assumes nothing.
-use borrow.Author.Rules.{rules}
 use mathlib.Core.Path.{◌∙◌}
 use Rattle.paper.specs.Downloads.{put_in}
 use Rattle.laws_downloads.proofs.Kept.{for_places}

@@ -1,9 +1,7 @@
 -- `downloads_write::write_place` meets its contract. The loop's invariant: the first r bytes are written. Assumes nothing.
-use mathlib.Core.Path.{◌≡◌}
-use Prim.Native.Nat.{◌+◌, ◌≤◌, ◌-◌}
+use Prim.Native.Nat.{◌+◌}
 use native.Mathlib.Omega.{arith}
-use lib.ListN.{length}
-use Rattle.downloads_write.proofs.Turns.{partly, partly_starts, partly_length, partly_on, partly_ends}
+use Rattle.downloads_write.proofs.Turns.{partly_starts, partly_length, partly_on, partly_ends}
 use Rattle.downloads_write.proofs.write_place.Goals as goal
 
 pub loop-r-init : goal.loop-r-init

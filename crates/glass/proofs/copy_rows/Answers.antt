@@ -30,7 +30,7 @@ loop-y-preserved c =
       refreshed-turn _ _ spans head.y _ _ _ (omega arith) head.invariant.3 copying.ensures.0,
       shown-turn _ spans head.y _ _ (omega arith) head.invariant.4 copying.ensures.1,
       let small = shown-le c.args.g (get_or c.args.spans c.loop-y.y no_span) in
-    let few : c.args.g.visible ≤ 65536 = visible_small c.args.g _ _ (omega arith) c.requires.1 in omega arith,
+          let few : c.args.g.visible ≤ 65536 = visible_small c.args.g _ _ (omega arith) c.requires.1 in omega arith,
     )
 
 pub returns : goal.returns

@@ -19,7 +19,6 @@ record Alike (g : Module) (p q : Span) : Type 0 where
   first : p.first ≡ q.first
   end : p.end ≡ q.end
 
-
 alike : (g : Module) (p q : Span)
     → (eqb g.rows 2 && (eqb p.first q.first && eqb p.end q.end)) ≡ true → Alike g p q
 alike g p q h =

@@ -1,11 +1,8 @@
 -- `read_unit` meets its contract: each known byte has its arm, and every other one, below the modes or above them, makes the
 -- code unknown. Assumes nothing.
-use Prim.Native.Nat.{◌<◌}
-use mathlib.Core.Path.{◌≡◌}
-use mathlib.Core.Logic.{◌⊎◌, inl, inr}
+use mathlib.Core.Logic.{inl, inr}
 use native.Mathlib.Omega.{arith}
 use Rattle.paper.specs.Reading.{read_unit}
-use Rattle.paper.specs.declared.Reading.TheVariants.{UnknownCode}
 use Rattle.reading_codes.proofs.Ranges.{differs, outside, unit_mode}
 use Rattle.reading_groups.proofs.read_unit.Goals as goal
 

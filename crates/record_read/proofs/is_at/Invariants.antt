@@ -1,11 +1,9 @@
 -- `is_at` meets its contract: r says whether the bytes so far are the same. Assumes nothing.
 use Prim.Native.Nat.{◌-◌, ◌≤◌}
-use mathlib.Core.Path.{◌≡◌, refl}
+use mathlib.Core.Path.{◌≡◌}
 use lib.ListN.{length, take}
-use native.Mathlib.Omega.{arith}
 use Rattle.paper.specs.Panel.{bytes_from}
 use Rattle.record_read.specs.Record.{same}
-use Rattle.record_read.proofs.Same.{same_next, same-all}
 use Rattle.record_read.proofs.is_at.Given as goal
 
 abbrev pub invariant-loop-i : goal.invariant-loop-i

@@ -1,10 +1,5 @@
 -- `is_idle` meets its contract: r says whether the bytes so far are 0. Assumes nothing.
-use Prim.Native.Nat.{ℕ, ◌-◌, ◌<◌, ◌≤◌}
-use mathlib.Core.Path.{◌≡◌}
-use mathlib.Core.Bool.{true}
-use lib.ListN.{get_or}
 use native.Mathlib.Omega.{arith}
-use Rattle.record_bytes.specs.Bytes.{at_hold, at_upper}
 use Rattle.record_read.proofs.Idle.{idle_more}
 use Rattle.record_read.proofs.is_idle.Goals as goal
 

@@ -3,9 +3,7 @@ use Prim.Native.Nat.{ℕ, ◌-◌, ◌<◌, ◌≤◌}
 use mathlib.Core.Path.{◌≡◌}
 use mathlib.Core.Bool.{true}
 use lib.ListN.{get_or}
-use native.Mathlib.Omega.{arith}
 use Rattle.record_bytes.specs.Bytes.{at_hold, at_upper}
-use Rattle.record_read.proofs.Idle.{idle_more}
 use Rattle.record_read.proofs.is_idle.Given as goal
 
 abbrev pub invariant-loop-j : goal.invariant-loop-j

@@ -1,5 +1,4 @@
 -- `is_written` meets its contract: the other bytes are those of their state. Assumes nothing.
-use borrow.Author.Rules.{rules}
 use mathlib.Core.Path.{ap, ◌∙◌}
 use Rattle.record_bytes.specs.Bytes.{slot_bytes}
 use Rattle.record_read.proofs.Written.{both_tested}

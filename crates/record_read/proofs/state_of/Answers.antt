@@ -1,6 +1,5 @@
 -- `state_of` meets its contract: with nothing held or half read the bytes are the state's own, else they are tested.
 -- Assumes nothing.
-use borrow.Author.Rules.{rules}
 use mathlib.Core.Path.{◌∙◌}
 use Rattle.record_read.proofs.Idle.{idle_stands}
 use Rattle.record_read.proofs.Stands.{busy_stands, busy_stands_broken}

@@ -1,5 +1,4 @@
 -- `view_dots::is_lit` is safe and answers the paper's dot of the glass byte.
-use borrow.Author.Rules.{rules}
 use mathlib.Core.Path.{refl}
 use Rattle.paper.specs.Panel.{panel}
 use Rattle.view_dots.specs.Picture.{glass_dot}

@@ -1,5 +1,4 @@
 -- `view_dots::pbm_byte` is safe and gives the byte of eight dots.
-use borrow.Author.Rules.{rules}
 use native.Mathlib.Nat.{add-zero}
 use mathlib.Core.Path.{refl}
 use Prim.Native.Nat.{◌*◌}

@@ -1,5 +1,4 @@
 -- `view_dots::worth_of` is safe and gives the worth of a dot that is lit.
-use borrow.Author.Rules.{rules}
 use native.Mathlib.Omega.{arith}
 use mathlib.Core.Path.{refl}
 use Rattle.view_dots.proofs.worth_of.Goals as goal

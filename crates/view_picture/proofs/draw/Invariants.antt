@@ -1,5 +1,4 @@
 -- `view_picture::draw` is safe and ends. The measure is how many lines of characters are left.
-use borrow.Author.Rules.{rules}
 use Prim.Native.Nat.{◌-◌}
 use lib.ListN.{length}
 use mathlib.Core.Path.{◌≡◌}

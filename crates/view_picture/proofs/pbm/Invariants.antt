@@ -1,5 +1,4 @@
 -- `view_picture::pbm` is safe and ends. The measure is how many lines of dots are left.
-use borrow.Author.Rules.{rules}
 use Prim.Native.Nat.{◌-◌}
 use lib.ListN.{length}
 use mathlib.Core.Path.{◌≡◌}

@@ -1,5 +1,4 @@
 -- `view_picture::put_edge` is safe and ends. The measure is how many characters of the edge are left.
-use borrow.Author.Rules.{rules}
 use Prim.Native.Nat.{◌-◌}
 use lib.ListN.{length}
 use mathlib.Core.Path.{◌≡◌}

@@ -1,0 +1,50 @@
+-- `carry::take` meets its contract: an arm for each reading. Assumes nothing.
+use borrow.Author.Rules.{rules}
+use mathlib.Core.Path.{refl}
+use Rattle.paper.specs.declared.Half.TheVariants.{Nothing}
+use Rattle.paper.specs.Downloads.{faces}
+use Rattle.paper.specs.Bounds.{half_ok}
+use Rattle.paper.specs.Settings.{view_of}
+use Rattle.paper.specs.Carry.{take_of, take_store}
+use Rattle.laws_bytes.specs.Readings.{reading_ok}
+use Rattle.carry_dots.proofs.Wrote.{does_answer, does_quiet, ready_half}
+use Rattle.carry_command.specs.Heavy.{heavy}
+use Rattle.carry.proofs.Kept.{kept_half}
+use Rattle.carry.proofs.Handed.{is_unknown}
+use borrow.Enum.Refused.{opened}
+use Rattle.carry.proofs.take.Goals as goal
+
+pub carry_out-d-requires : goal.carry_out-d-requires
+unfolding reading_ok half_ok heavy view_of
+carry_out-d-requires c =
+    let told = c.in-Whole.is in (
+      ready_half c.args.g c.args.s c.args.mem.now Nothing refl c.requires.0,
+      (rw told at c.requires.1.0, rw told at c.requires.1.1),
+    )
+
+pub returns-in-More : goal.returns-in-More
+unfolding take_of take_store
+returns-in-More c font =
+    rw c.in-More.is (does_answer c.ends.ensures refl, refl)
+
+pub returns-in-Whole : goal.returns-in-Whole
+unfolding take_of take_store
+returns-in-Whole c font =
+    let a = c.args in
+    let d = c.carry_out-d.ensures font in
+    rw c.in-Whole.is (kept_half (faces font a.store.now) a.s _ d.0 c.ends-in-Whole.ensures, d.1)
+
+pub returns-in-GlyphEnd : goal.returns-in-GlyphEnd
+returns-in-GlyphEnd c font =
+    let d = c.glyph_end.ensures c.args.g font in
+    rw c.in-GlyphEnd.is (does_quiet d.says, d.store)
+
+pub returns-in-Cancels : goal.returns-in-Cancels
+unfolding take_of take_store
+returns-in-Cancels c font =
+    rw c.in-Cancels.is (does_answer c.ends-in-Cancels.ensures refl, refl)
+
+pub returns-in_default : goal.returns-in_default
+unfolding take_of take_store
+returns-in_default c font =
+    rw (is_unknown _ c.args.r c.requires.1.1 (opened c.in_default.in_default-own.keys5)) (does_answer c.ends-in_default.ensures refl, refl)

@@ -1,0 +1,36 @@
+// What the programs share that read an input or their arguments: a buffer that is read full, and an argument as its bytes. Both are over the
+// library's readers and its environment, and no memory is allocated.
+#![tactic(auto)]
+
+ghost use Rattle.std.specs.Prelude.{◌≤◌, length, IfOk, IfSome};
+
+use std::env::{Env, FillError};
+use std::io;
+use std::io::Read;
+
+// Reads until a buffer is full or the input ends, and answers how many bytes it put at the buffer's start. After a read that failed the
+// buffer's bytes are no promise.
+pub fn read_full(from: &mut impl Read, to: &mut [u8]) -> io::Result<usize>
+    ensures { IfOk result (λ n. n ≤ length to.new) }
+{
+    let mut done = 0;
+    while done < to.len() {
+        let n = from.read(&mut to[done..])?;
+        if n == 0 {
+            break;
+        }
+        done += n;
+    }
+    Ok(done)
+}
+
+// Puts argument i at the start of a word and answers its length, 0 if it is longer than the word; none behind the last argument.
+pub fn argument(env: &impl Env, i: usize, word: &mut [u8]) -> Option<usize>
+    ensures { IfSome result (λ n. n ≤ length word.new) }
+{
+    match env.arg(i, word) {
+        Ok(n) => Some(n),
+        Err(FillError::TooLong) => Some(0),
+        Err(FillError::NotPresent) => None,
+    }
+}
