@@ -1,13 +1,12 @@
 -- `cells_cut::cut_row` meets its contract. The loop's invariant: the first j columns are laid, and the next goes to address a.
 -- Assumes nothing.
 use mathlib.Core.Path.{◌≡◌, refl, ap, ◌∙◌}
-use Prim.Native.Nat.{ℕ, ◌+◌, ◌*◌, ◌-◌, ◌<◌, ◌≤◌}
+use Prim.Native.Nat.{ℕ, ◌+◌, ◌*◌, ◌<◌}
 use native.Mathlib.Nat.{mul-le-mul_left}
 use native.Mathlib.Omega.{arith}
-use borrow.Author.Rules.{rules}
-use lib.ListN.{length, length-set, get_or}
+use lib.ListN.{length-set, get_or}
 use Rattle.laws_bytes.specs.Bytes.{tall_byte, reversed_byte}
-use Rattle.laws_laid.specs.Laid.{byte_turn, laid}
+use Rattle.laws_laid.specs.Laid.{byte_turn}
 use Rattle.laws_laid.proofs.Laid.{turned_to_lem, laid_more}
 use Rattle.glyphs_columns.specs.Columns.{mixed_by, lifted_of, cell_stroke}
 use Rattle.cells_cut.proofs.cut_row.Goals as goal

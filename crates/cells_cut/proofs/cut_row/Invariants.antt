@@ -1,15 +1,10 @@
 -- `cells_cut::cut_row` meets its contract. The loop's invariant: the first j columns are laid, and the next goes to address a.
 -- Assumes nothing.
-use mathlib.Core.Path.{◌≡◌, refl, ap, ◌∙◌}
-use Prim.Native.Nat.{ℕ, ◌+◌, ◌*◌, ◌-◌, ◌<◌, ◌≤◌}
-use native.Mathlib.Nat.{mul-le-mul_left}
-use native.Mathlib.Omega.{arith}
-use borrow.Author.Rules.{rules}
-use lib.ListN.{length, length-set, get_or}
-use Rattle.laws_bytes.specs.Bytes.{tall_byte, reversed_byte}
-use Rattle.laws_laid.specs.Laid.{byte_turn, laid}
-use Rattle.laws_laid.proofs.Laid.{turned_to_lem, laid_more}
-use Rattle.glyphs_columns.specs.Columns.{mixed_by, lifted_of, cell_stroke}
+use mathlib.Core.Path.{◌≡◌}
+use Prim.Native.Nat.{◌+◌, ◌*◌, ◌-◌, ◌≤◌}
+use lib.ListN.{length}
+use Rattle.laws_laid.specs.Laid.{laid}
+use Rattle.glyphs_columns.specs.Columns.{cell_stroke}
 use Rattle.cells_cut.proofs.cut_row.Given as goal
 
 abbrev pub invariant-loop-j : goal.invariant-loop-j
