@@ -37,9 +37,8 @@ loop-i-init c =
 
 pub settled-requires : goal.settled-requires
 settled-requires c =
-    let begun = c in
-    let a = begun.args in
-    let r = begun.requires.0.ready in
+    let a = c.args in
+    let r = c.requires.0.ready in
     settles_within a.g a.f.state c.loop-i.p.view r.usable r.state_is_ok c.loop-i.invariant.within
 
 pub shape_of-mem-then-not-is_light : goal.shape_of-mem-then-not-is_light
@@ -48,14 +47,12 @@ shape_of-mem-then-not-is_light c =
 
 pub returns-then-not-is_light : goal.returns-then-not-is_light
 returns-then-not-is_light c =
-    let begun = c in
     let l = c.loop-i in
-    let start = begun in
-    let a = start.args in
+    let a = c.args in
     let ends = sym c.is_light.ensures ∙ c.if-not-is_light.true in
     rw c.settled.ensures
     (record {
-      some = light_some a.piece.now a.from l.i l.invariant.low start.pre.1.has ends;
+      some = light_some a.piece.now a.from l.i l.invariant.low c.requires.1.has ends;
       end = l.invariant.high;
       reached = l.invariant.reached;
     })
@@ -64,21 +61,19 @@ returns-then-not-is_light c =
 
 pub run-r-requires : goal.run-r-requires
 run-r-requires c =
-    let begun = c in
-    let ok : let a = begun.args in state_ok a.g (on_desk a.f.state c.loop-i.style c.loop-i.p) ≡ true = let start = begun in
-    let r = start.pre.0.ready in
-    lit_ok r.usable start.pre.1.free c.loop-i.invariant r.state_is_ok in
-    let room : let a = begun.args in
+    let ok : let a = c.args in state_ok a.g (on_desk a.f.state c.loop-i.style c.loop-i.p) ≡ true =
+    let r = c.requires.0.ready in
+    lit_ok r.usable c.requires.1.free c.loop-i.invariant r.state_is_ok in
+    let room : let a = c.args in
     let l = c.loop-i in
-    Room a.g l.p.view (cell_width a.g a.f.state.settings.width l.style) (cell_height l.style) = let start = begun in
-    let a = start.args in
+    Room a.g l.p.view (cell_width a.g a.f.state.settings.width l.style) (cell_height l.style) =
+    let a = c.args in
     let l = c.loop-i in
-    desk_room a.g start.pre.0.ready.usable a.f.state l.style l.p l.invariant.within ok l.invariant.room in
-    let fits : Fits begun.args.g c.loop-i.mem = let f = begun.requires.0.ready.fits in record { size = c.loop-i.invariant.size ∙ f.size; small = f.small } in
+    desk_room a.g c.requires.0.ready.usable a.f.state l.style l.p l.invariant.within ok l.invariant.room in
+    let fits : Fits c.args.g c.loop-i.mem = let f = c.requires.0.ready.fits in record { size = c.loop-i.invariant.size ∙ f.size; small = f.small } in
     let l = c.loop-i in
-    let start = begun in
-    let a = start.args in
-    let due = start.pre.0 in
+    let a = c.args in
+    let due = c.requires.0 in
     let u = due.ready.usable in
     let inked = desk_inked a.g u a.f.state l.style l.p l.invariant.within ok a.font.now due.font_whole in
     record { usable = (u, (room, (inked, fits))); from_in_bounds = (omega arith, omega arith); }
@@ -89,11 +84,10 @@ overflow_sub-carried c =
 
 pub overflow_add-carried : goal.overflow_add-carried
 overflow_add-carried c =
-    let begun = c in
-    let countable : c.loop-i.carried + (length begun.args.piece.now - c.loop-i.i) < 18446744073709551616 = let start = begun in
-    let a = start.args in
-    let due = start.pre.0 in
-    let n = lit-counts due.ready.usable start.pre.1.free c.loop-i.invariant in
+    let countable : c.loop-i.carried + (length c.args.piece.now - c.loop-i.i) < 18446744073709551616 =
+    let a = c.args in
+    let due = c.requires.0 in
+    let n = lit-counts due.ready.usable c.requires.1.free c.loop-i.invariant in
     let d = length-drop c.loop-i.i a.piece.now in
     let e = length-drop a.from a.piece.now in
     omega (arith, n, d, e, due.countable, c.loop-i.invariant.low, c.loop-i.invariant.high) in
@@ -101,14 +95,13 @@ overflow_add-carried c =
 
 pub in_range-p-requires : goal.in_range-p-requires
 in_range-p-requires c =
-    let begun = c in
-    let drawn : let a = begun.args in
+    let drawn : let a = c.args in
     let l = c.loop-i in
     let r = c.run-r.result in
     Lit a.g a.font.now a.store.now a.piece.now a.f a.mem.now a.from
-    r.spot l.style (l.carried + (r.at - l.i)) Carried r.at c.run-r.new.mem = let start = begun in
-    let r = start.pre.0.ready in
-    lit-characters r.usable start.pre.1.free c.loop-i.invariant c.run-r.result _ r.state_is_ok (omega arith) (omega arith)
+    r.spot l.style (l.carried + (r.at - l.i)) Carried r.at c.run-r.new.mem =
+    let r = c.requires.0.ready in
+    lit-characters r.usable c.requires.1.free c.loop-i.invariant c.run-r.result _ r.state_is_ok (omega arith) (omega arith)
     c.run-r.auto.mem (rw c.in_force-own.ensures at c.run-r.ensures) in
     rw c.spot_of-p0.ensures drawn.within
 
@@ -118,14 +111,13 @@ loop-i-smaller-then-b-ge32 c =
 
 pub loop-i-preserved-then-b-ge32 : goal.loop-i-preserved-then-b-ge32
 loop-i-preserved-then-b-ge32 c =
-    let begun = c in
-    let drawn : let a = begun.args in
+    let drawn : let a = c.args in
     let l = c.loop-i in
     let r = c.run-r.result in
     Lit a.g a.font.now a.store.now a.piece.now a.f a.mem.now a.from
-    r.spot l.style (l.carried + (r.at - l.i)) Carried r.at c.run-r.new.mem = let start = begun in
-    let r = start.pre.0.ready in
-    lit-characters r.usable start.pre.1.free c.loop-i.invariant c.run-r.result _ r.state_is_ok (omega arith) (omega arith)
+    r.spot l.style (l.carried + (r.at - l.i)) Carried r.at c.run-r.new.mem =
+    let r = c.requires.0.ready in
+    lit-characters r.usable c.requires.1.free c.loop-i.invariant c.run-r.result _ r.state_is_ok (omega arith) (omega arith)
     c.run-r.auto.mem (rw c.in_force-own.ensures at c.run-r.ensures) in
     rw c.in_range-p.ensures drawn
 
@@ -133,11 +125,10 @@ loop-i-preserved-then-b-ge32 c =
 
 pub overflow_add-carried-in-loop-i : goal.overflow_add-carried-in-loop-i
 overflow_add-carried-in-loop-i c =
-    let begun = c in
-    let countable : c.loop-i.carried + (length begun.args.piece.now - c.loop-i.i) < 18446744073709551616 = let start = begun in
-    let a = start.args in
-    let due = start.pre.0 in
-    let n = lit-counts due.ready.usable start.pre.1.free c.loop-i.invariant in
+    let countable : c.loop-i.carried + (length c.args.piece.now - c.loop-i.i) < 18446744073709551616 =
+    let a = c.args in
+    let due = c.requires.0 in
+    let n = lit-counts due.ready.usable c.requires.1.free c.loop-i.invariant in
     let d = length-drop c.loop-i.i a.piece.now in
     let e = length-drop a.from a.piece.now in
     omega (arith, n, d, e, due.countable, c.loop-i.invariant.low, c.loop-i.invariant.high) in
@@ -145,35 +136,32 @@ overflow_add-carried-in-loop-i c =
 
 pub step-q-requires : goal.step-q-requires
 step-q-requires c =
-    let begun = c in
-    let ok : let a = begun.args in state_ok a.g (on_desk a.f.state c.loop-i.style c.loop-i.p) ≡ true = let start = begun in
-    let r = start.pre.0.ready in
-    lit_ok r.usable start.pre.1.free c.loop-i.invariant r.state_is_ok in
-    let room : let a = begun.args in
+    let ok : let a = c.args in state_ok a.g (on_desk a.f.state c.loop-i.style c.loop-i.p) ≡ true =
+    let r = c.requires.0.ready in
+    lit_ok r.usable c.requires.1.free c.loop-i.invariant r.state_is_ok in
+    let room : let a = c.args in
     let l = c.loop-i in
-    Room a.g l.p.view (cell_width a.g a.f.state.settings.width l.style) (cell_height l.style) = let start = begun in
-    let a = start.args in
+    Room a.g l.p.view (cell_width a.g a.f.state.settings.width l.style) (cell_height l.style) =
+    let a = c.args in
     let l = c.loop-i in
-    desk_room a.g start.pre.0.ready.usable a.f.state l.style l.p l.invariant.within ok l.invariant.room in
-    let fits : Fits begun.args.g c.loop-i.mem = let f = begun.requires.0.ready.fits in record { size = c.loop-i.invariant.size ∙ f.size; small = f.small } in
-    rw c.cell_width-c.ensures (begun.requires.0.ready.usable, (room, fits))
+    desk_room a.g c.requires.0.ready.usable a.f.state l.style l.p l.invariant.within ok l.invariant.room in
+    let fits : Fits c.args.g c.loop-i.mem = let f = c.requires.0.ready.fits in record { size = c.loop-i.invariant.size ∙ f.size; small = f.small } in
+    rw c.cell_width-c.ensures (c.requires.0.ready.usable, (room, fits))
 
 pub in_range-p-requires-then-is_move : goal.in_range-p-requires-then-is_move
 in_range-p-requires-then-is_move c =
-    let begun = c in
-    let moved : let a = begun.args in
+    let moved : let a = c.args in
     let l = c.loop-i in
     Lit a.g a.font.now a.store.now a.piece.now a.f a.mem.now a.from
-    c.step-q.result l.style (l.carried + 1) Carried (l.i + 1) c.step-q.new.mem = let start = begun in
-    let r = start.pre.0.ready in
-    lit_move r.usable start.pre.1.free c.loop-i.invariant c.step-q.result _ r.state_is_ok (omega (arith, c.loop-i-test.true))
+    c.step-q.result l.style (l.carried + 1) Carried (l.i + 1) c.step-q.new.mem =
+    let r = c.requires.0.ready in
+    lit_move r.usable c.requires.1.free c.loop-i.invariant c.step-q.result _ r.state_is_ok (omega (arith, c.loop-i-test.true))
     (sym c.is_move.ensures ∙ c.if-is_move.true) c.step-q.auto.mem (rw c.cell_width-c.ensures at c.step-q.ensures) in
     rw c.spot_of-p0.ensures moved.within
 
 pub overflow_add-i : goal.overflow_add-i
 overflow_add-i c =
-    let begun = c in
-    let len_small : length begun.args.piece.now < 18446744073709551616 = omega arith in
+    let len_small : length c.args.piece.now < 18446744073709551616 = omega arith in
     omega (arith, c.loop-i-test.true, len_small)
 
 pub loop-i-smaller-then-is_move : goal.loop-i-smaller-then-is_move
@@ -182,53 +170,48 @@ loop-i-smaller-then-is_move c =
 
 pub loop-i-preserved-then-is_move : goal.loop-i-preserved-then-is_move
 loop-i-preserved-then-is_move c =
-    let begun = c in
-    let moved : let a = begun.args in
+    let moved : let a = c.args in
     let l = c.loop-i in
     Lit a.g a.font.now a.store.now a.piece.now a.f a.mem.now a.from
-    c.step-q.result l.style (l.carried + 1) Carried (l.i + 1) c.step-q.new.mem = let start = begun in
-    let r = start.pre.0.ready in
-    lit_move r.usable start.pre.1.free c.loop-i.invariant c.step-q.result _ r.state_is_ok (omega (arith, c.loop-i-test.true))
+    c.step-q.result l.style (l.carried + 1) Carried (l.i + 1) c.step-q.new.mem =
+    let r = c.requires.0.ready in
+    lit_move r.usable c.requires.1.free c.loop-i.invariant c.step-q.result _ r.state_is_ok (omega (arith, c.loop-i-test.true))
     (sym c.is_move.ensures ∙ c.if-is_move.true) c.step-q.auto.mem (rw c.cell_width-c.ensures at c.step-q.ensures) in
     rw c.in_range-p-then-is_move.ensures moved
 
 pub overflow_add-i-in-loop-i : goal.overflow_add-i-in-loop-i
 overflow_add-i-in-loop-i c =
-    let begun = c in
-    let len_small : length begun.args.piece.now < 18446744073709551616 = omega arith in
-    let styling : is_styling begun.args.piece.now c.loop-i.i ≡ true = light_style begun.args.piece.now c.loop-i.i (sym c.is_light.ensures ∙ c.if-not-is_light.false)
+    let len_small : length c.args.piece.now < 18446744073709551616 = omega arith in
+    let styling : is_styling c.args.piece.now c.loop-i.i ≡ true = light_style c.args.piece.now c.loop-i.i (sym c.is_light.ensures ∙ c.if-not-is_light.false)
     (omega arith) (sym c.is_move.ensures ∙ c.if-is_move.false) in
-    let whole : c.loop-i.i + 3 ≤ length begun.args.piece.now = let a = begun.args in
+    let whole : c.loop-i.i + 3 ≤ length c.args.piece.now = let a = c.args in
     style_whole a.g a.piece.now c.loop-i.i styling in
-    let counted : c.loop-i.i + 3 < 18446744073709551616 = omega (arith, whole, len_small c) in
+    let counted : c.loop-i.i + 3 < 18446744073709551616 = omega (arith, whole, len_small) in
     omega (arith, counted)
 
 pub bounds-piece-i-in-loop-i : goal.bounds-piece-i-in-loop-i
 bounds-piece-i-in-loop-i c =
-    let begun = c in
-    let styling : is_styling begun.args.piece.now c.loop-i.i ≡ true = light_style begun.args.piece.now c.loop-i.i (sym c.is_light.ensures ∙ c.if-not-is_light.false)
+    let styling : is_styling c.args.piece.now c.loop-i.i ≡ true = light_style c.args.piece.now c.loop-i.i (sym c.is_light.ensures ∙ c.if-not-is_light.false)
     (omega arith) (sym c.is_move.ensures ∙ c.if-is_move.false) in
-    let whole : c.loop-i.i + 3 ≤ length begun.args.piece.now = let a = begun.args in
+    let whole : c.loop-i.i + 3 ≤ length c.args.piece.now = let a = c.args in
     style_whole a.g a.piece.now c.loop-i.i styling in
     omega (arith, whole)
 
 pub overflow_add-i-in-loop-i-2 : goal.overflow_add-i-in-loop-i-2
 overflow_add-i-in-loop-i-2 c =
-    let begun = c in
-    let len_small : length begun.args.piece.now < 18446744073709551616 = omega arith in
-    let styling : is_styling begun.args.piece.now c.loop-i.i ≡ true = light_style begun.args.piece.now c.loop-i.i (sym c.is_light.ensures ∙ c.if-not-is_light.false)
+    let len_small : length c.args.piece.now < 18446744073709551616 = omega arith in
+    let styling : is_styling c.args.piece.now c.loop-i.i ≡ true = light_style c.args.piece.now c.loop-i.i (sym c.is_light.ensures ∙ c.if-not-is_light.false)
     (omega arith) (sym c.is_move.ensures ∙ c.if-is_move.false) in
-    let whole : c.loop-i.i + 3 ≤ length begun.args.piece.now = let a = begun.args in
+    let whole : c.loop-i.i + 3 ≤ length c.args.piece.now = let a = c.args in
     style_whole a.g a.piece.now c.loop-i.i styling in
-    let counted : c.loop-i.i + 3 < 18446744073709551616 = omega (arith, whole, len_small c) in
+    let counted : c.loop-i.i + 3 < 18446744073709551616 = omega (arith, whole, len_small) in
     omega (arith, counted)
 
 pub bounds-piece-i-in-loop-i-2 : goal.bounds-piece-i-in-loop-i-2
 bounds-piece-i-in-loop-i-2 c =
-    let begun = c in
-    let styling : is_styling begun.args.piece.now c.loop-i.i ≡ true = light_style begun.args.piece.now c.loop-i.i (sym c.is_light.ensures ∙ c.if-not-is_light.false)
+    let styling : is_styling c.args.piece.now c.loop-i.i ≡ true = light_style c.args.piece.now c.loop-i.i (sym c.is_light.ensures ∙ c.if-not-is_light.false)
     (omega arith) (sym c.is_move.ensures ∙ c.if-is_move.false) in
-    let whole : c.loop-i.i + 3 ≤ length begun.args.piece.now = let a = begun.args in
+    let whole : c.loop-i.i + 3 ≤ length c.args.piece.now = let a = c.args in
     style_whole a.g a.piece.now c.loop-i.i styling in
     omega (arith, whole)
 
@@ -236,39 +219,34 @@ bounds-piece-i-in-loop-i-2 c =
 
 pub overflow_add-i-in-loop-i-3 : goal.overflow_add-i-in-loop-i-3
 overflow_add-i-in-loop-i-3 c =
-    let begun = c in
-    let len_small : length begun.args.piece.now < 18446744073709551616 = omega arith in
-    let styling : is_styling begun.args.piece.now c.loop-i.i ≡ true = light_style begun.args.piece.now c.loop-i.i (sym c.is_light.ensures ∙ c.if-not-is_light.false)
+    let len_small : length c.args.piece.now < 18446744073709551616 = omega arith in
+    let styling : is_styling c.args.piece.now c.loop-i.i ≡ true = light_style c.args.piece.now c.loop-i.i (sym c.is_light.ensures ∙ c.if-not-is_light.false)
     (omega arith) (sym c.is_move.ensures ∙ c.if-is_move.false) in
-    let whole : c.loop-i.i + 3 ≤ length begun.args.piece.now = let a = begun.args in
+    let whole : c.loop-i.i + 3 ≤ length c.args.piece.now = let a = c.args in
     style_whole a.g a.piece.now c.loop-i.i styling in
-    let counted : c.loop-i.i + 3 < 18446744073709551616 = omega (arith, whole, len_small c) in
+    let counted : c.loop-i.i + 3 < 18446744073709551616 = omega (arith, whole, len_small) in
     omega (arith, counted)
 
 pub loop-i-smaller : goal.loop-i-smaller
 loop-i-smaller c =
-    let begun = c in
-    let styling : is_styling begun.args.piece.now c.loop-i.i ≡ true = light_style begun.args.piece.now c.loop-i.i (sym c.is_light.ensures ∙ c.if-not-is_light.false)
+    let styling : is_styling c.args.piece.now c.loop-i.i ≡ true = light_style c.args.piece.now c.loop-i.i (sym c.is_light.ensures ∙ c.if-not-is_light.false)
     (omega arith) (sym c.is_move.ensures ∙ c.if-is_move.false) in
-    let whole : c.loop-i.i + 3 ≤ length begun.args.piece.now = let a = begun.args in
+    let whole : c.loop-i.i + 3 ≤ length c.args.piece.now = let a = c.args in
     style_whole a.g a.piece.now c.loop-i.i styling in
     omega (arith, whole)
 
 pub loop-i-preserved : goal.loop-i-preserved
 loop-i-preserved c =
-    let begun = c in
-    let styling : is_styling begun.args.piece.now c.loop-i.i ≡ true = light_style begun.args.piece.now c.loop-i.i (sym c.is_light.ensures ∙ c.if-not-is_light.false)
+    let styling : is_styling c.args.piece.now c.loop-i.i ≡ true = light_style c.args.piece.now c.loop-i.i (sym c.is_light.ensures ∙ c.if-not-is_light.false)
     (omega arith) (sym c.is_move.ensures ∙ c.if-is_move.false) in
-    let start = begun in
-    rw c.styled-style.ensures (lit_style start.pre.0.ready.usable start.pre.1.free c.loop-i.invariant styling)
+    rw c.styled-style.ensures (lit_style c.requires.0.ready.usable c.requires.1.free c.loop-i.invariant styling)
 
 -- ---- the piece's end
 
 pub settled-requires-2 : goal.settled-requires-2
 settled-requires-2 c =
-    let begun = c in
-    let a = begun.args in
-    let r = begun.requires.0.ready in
+    let a = c.args in
+    let r = c.requires.0.ready in
     settles_within a.g a.f.state c.loop-i.p.view r.usable r.state_is_ok c.loop-i.invariant.within
 
 pub shape_of-mem : goal.shape_of-mem
@@ -277,7 +255,6 @@ shape_of-mem c =
 
 pub returns : goal.returns
 returns c =
-    let begun = c in
     let k = c.loop-i.invariant in
     rw c.settled-2.ensures
-    (record { some = omega (arith, begun.requires.0.inside); end = k.high; reached = k.reached })
+    (record { some = omega (arith, c.requires.0.inside); end = k.high; reached = k.reached })
