@@ -1,9 +1,9 @@
 /* Writes scripts (docs/SCRIPTS.md) by chance: `generate SEED COUNT`
  * writes COUNT streams to standard output, and `generate SEED COUNT PART`
- * streams with a PARTth of the bytes; `generate bounds` every bound of a
- * state, in and out. The same seed writes the same script
- * everywhere. The streams' bytes are made by streams.h, the links' by
- * links.h. */
+ * streams with a PARTth of the bytes; with `links` before the seed, links and
+ * receives are among what is drawn; `generate bounds` writes every bound of a
+ * state, in and out. The same words write the same script everywhere. The
+ * streams' bytes are made by streams.h, the links' by links.h. */
 #include "../play/places.h"
 #include "streams.h"
 
@@ -11,6 +11,10 @@
 
 #include <stdio.h>
 #include <stdlib.h>
+
+/* Whether links and receives are drawn too. Without them a seed draws what it
+ * drew before there were any, so that what is stored of it stays. */
+static bool links;
 
 /* ------------------------------------------------------------------------
  * Lines
@@ -107,7 +111,8 @@ static void write_short_receive(void)
 /* A call between two pieces. */
 static void write_between(void)
 {
-    switch (below(11)) {
+    unsigned n = below(links ? 11 : 10);
+    switch (n) {
     case 0:
     case 1:
     case 2:
@@ -127,11 +132,11 @@ static void write_between(void)
     case 8:
         puts("sum");
         break;
-    case 9:
-        write_short_receive();
-        break;
     default:
-        puts("feed");
+        if (links && n == 9)
+            write_short_receive();
+        else
+            puts("feed");
         break;
     }
 }
@@ -632,7 +637,7 @@ static void stream_spoiled(void)
 
 static void stream(void)
 {
-    unsigned n = below(122);
+    unsigned n = below(links ? 122 : 110);
     write_opening();
     if (n < 40)
         stream_well_formed();
@@ -795,8 +800,13 @@ int main(int argc, char **argv)
         bounds();
         return fflush(stdout) == 0 ? 0 : 1;
     }
+    if (argc > 1 && strcmp(argv[1], "links") == 0) {
+        links = true;
+        argc--;
+        argv++;
+    }
     if (argc != 3 && argc != 4) {
-        fputs("usage: generate SEED COUNT [PART] | generate bounds\n", stderr);
+        fputs("usage: generate [links] SEED COUNT [PART] | generate bounds\n", stderr);
         return 2;
     }
     uint64_t seed = strtoull(argv[1], &end, 10);
@@ -817,7 +827,7 @@ int main(int argc, char **argv)
         }
     }
     chance = seed;
-    printf("# generate %s %s%s%s\n", argv[1], argv[2], argc == 4 ? " " : "", argc == 4 ? argv[3] : "");
+    printf("# generate %s%s %s%s%s\n", links ? "links " : "", argv[1], argv[2], argc == 4 ? " " : "", argc == 4 ? argv[3] : "");
     for (unsigned long i = 0; i < count; i++)
         stream();
     return fflush(stdout) == 0 ? 0 : 1;
