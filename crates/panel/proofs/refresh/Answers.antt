@@ -1,0 +1,15 @@
+-- `panel::refresh` meets its contract: the call for any module, for this one. Assumes nothing.
+use borrow.Author.Rules.{rules}
+use mathlib.Core.Path.{refl}
+use Rattle.paper.specs.Panel.{panel}
+use Rattle.laws_state.proofs.Views.{panel_usable}
+use Rattle.panel.proofs.refresh.Goals as goal
+
+pub refresh-requires : goal.refresh-requires
+unfolding panel
+refresh-requires c =
+    rw c.small.ensures (panel_usable, refl)
+
+pub returns : goal.returns
+returns c =
+    rw c.small.ensures at c.refresh.ensures
