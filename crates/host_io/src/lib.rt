@@ -2,16 +2,17 @@
 // library's readers and its environment, and no memory is allocated.
 #![tactic(auto)]
 
-ghost use Rattle.std.specs.Prelude.{◌≤◌, length, IfOk, IfSome};
+ghost use Rattle.std.specs.Prelude.{◌≡◌, ◌≤◌, length, IfOk, IfSome, OnErr};
 
 use std::env::{Env, FillError};
 use std::io;
 use std::io::Read;
 
-// Reads until a buffer is full or the input ends, and answers how many bytes it put at the buffer's start. After a read that failed the
-// buffer's bytes are no promise.
+// Reads until a buffer is full or the input ends, and answers how many bytes it put at the buffer's start. An error is the reader's own, and
+// leaves a buffer of the same length, whose bytes are no promise.
 pub fn read_full(from: &mut impl Read, to: &mut [u8]) -> io::Result<usize>
-    ensures { IfOk result (λ n. n ≤ length to.new) }
+    ensures count { IfOk result (λ n. n ≤ length to.new) }
+    ensures err { OnErr result (length to.new ≡ length to.old) }
 {
     let mut done = 0;
     while done < to.len() {

@@ -2,7 +2,7 @@
 // error. A program that complains writes nothing else. It uses the library's readers and writers, and hands back an error of theirs.
 #![tactic(auto)]
 
-ghost use Rattle.std.specs.Prelude.{◌≡◌, length};
+ghost use Rattle.std.specs.Prelude.{◌≡◌, length, OnErr};
 
 use std::io;
 use std::io::{Print, Read};
@@ -13,13 +13,15 @@ pub fn complain(err: &impl Print, text: &[u8]) -> io::Result<()> {
     err.write_all(b"\n")
 }
 
-// Fills a buffer from the input, and answers whether all of it has come.
+// Fills a buffer from the input, and answers whether all of it has come. An error is the input's or the complaint's.
 fn read_whole(
     from: &mut impl Read,
     err: &impl Print,
     to: &mut [u8],
     complaint: &[u8],
-) -> io::Result<bool> {
+) -> io::Result<bool>
+    ensures err { OnErr result (length to.new ≡ length to.old) }
+{
     let n = host_io::read_full(from, to)?;
     if n == to.len() {
         return Ok(true);
@@ -28,7 +30,9 @@ fn read_whole(
     Ok(false)
 }
 
-pub fn read_font(from: &mut impl Read, err: &impl Print, font: &mut [u8]) -> io::Result<bool> {
+pub fn read_font(from: &mut impl Read, err: &impl Print, font: &mut [u8]) -> io::Result<bool>
+    ensures err { OnErr result (length font.new ≡ length font.old) }
+{
     read_whole(
         from,
         err,
@@ -37,7 +41,9 @@ pub fn read_font(from: &mut impl Read, err: &impl Print, font: &mut [u8]) -> io:
     )
 }
 
-pub fn read_glass(from: &mut impl Read, err: &impl Print, glass: &mut [u8]) -> io::Result<bool> {
+pub fn read_glass(from: &mut impl Read, err: &impl Print, glass: &mut [u8]) -> io::Result<bool>
+    ensures err { OnErr result (length glass.new ≡ length glass.old) }
+{
     read_whole(
         from,
         err,
@@ -61,7 +67,9 @@ pub struct Input {
 }
 
 // Reads what follows the font. It is too long if it fills the room.
-pub fn read_rest(from: &mut impl Read, err: &impl Print, room: &mut [u8]) -> io::Result<Input> {
+pub fn read_rest(from: &mut impl Read, err: &impl Print, room: &mut [u8]) -> io::Result<Input>
+    ensures err { OnErr result (length room.new ≡ length room.old) }
+{
     let n = host_io::read_full(from, room)?;
     if n < room.len() {
         return Ok(Input { ok: true, bytes: n });

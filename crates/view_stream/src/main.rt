@@ -8,7 +8,7 @@ use std::io;
 use std::io::Print;
 use view_parts::Way;
 
-// What was read of the arguments so far: how the input is read from here on, and whether one was complained of, behind which nothing
+// What was read of the arguments so far: how the input is read from here on, and whether one was a wrong address, behind which nothing
 // is written.
 #[derive(Clone, Copy)]
 struct Asked {
@@ -53,7 +53,7 @@ fn at_address(err: &impl Print, way: Way, address: usize) -> io::Result<Asked> {
     })
 }
 
-// Writes what a word asks for, `show` or `trace`, or takes it as an address.
+// Writes what a word asks for, `show` or `trace`, or takes it as an address; any other word is complained of and passed.
 fn write_as(
     rt: &impl Print,
     err: &impl Print,
@@ -73,11 +73,8 @@ fn write_as(
     if view_text::is_number(word) {
         return at_address(err, way, view_text::number(word));
     }
-    view_io::complain(
-        err,
-        b"an argument that is neither show nor trace nor a number of up to 64 digits",
-    )?;
-    Ok(Asked { way, wrong: true })
+    view_io::complain(err, b"an argument that is neither show nor trace")?;
+    Ok(Asked { way, wrong: false })
 }
 
 // Writes what argument i asks for; none behind the last argument.
@@ -96,7 +93,7 @@ fn write_by(
     Ok(Some(write_as(rt, err, &word[..n], font, input, way)?))
 }
 
-// Writes what each of the program's arguments asks for, up to one that is complained of.
+// Writes what each of the program's arguments asks for, up to a wrong address.
 fn write_all(
     rt: &(impl Env + Print),
     err: &impl Print,

@@ -18,7 +18,7 @@ image_bytes-r-requires c =
     let a = c.args in
     let r = c.requires.0.ready in
     let k = image_bounds a.g a.f.state a.width a.height a.column a.row r.state_is_ok c.requires.1 in
-    record { usable = (r.usable, (rw c.spot_of-p.ensures (view-place a.g r.usable a.f.state r.state_is_ok), r.fits)); column_lt_width = (k.0, k.1, omega (arith, k.2, r.two_rows), c.requires.0.inside); }
+    record { usable = (r.usable, (rw c.spot_of-p.ensures (view-place a.g r.usable a.f.state r.state_is_ok), r.fits)); column_lt_width = (k.0, k.1, omega (arith, k.2, r.two_rows), c.requires.0.inside) }
 
 pub overflow_add-fed : goal.overflow_add-fed
 overflow_add-fed c =

@@ -76,7 +76,7 @@ run-r-requires c =
     let due = c.requires.0 in
     let u = due.ready.usable in
     let inked = desk_inked a.g u a.f.state l.style l.p l.invariant.within ok a.font.now due.font_whole in
-    record { usable = (u, (room, (inked, fits))); from_in_bounds = (omega arith, omega arith); }
+    record { usable = (u, (room, (inked, fits))); from_in_bounds = (omega arith, omega arith) }
 
 pub overflow_sub-carried : goal.overflow_sub-carried
 overflow_sub-carried c =
