@@ -53,7 +53,7 @@ pub struct Settings {
 }
 
 // A window's cursor, counted from the window's top left, and its mode, 1 to 3 for MD1 to MD3.
-#[derive(Clone, Copy)]
+#[derive(Clone, Copy, PartialEq, Eq, Default)]
 pub struct Cursor {
     pub x: u16,
     pub y: u16,
@@ -61,7 +61,7 @@ pub struct Cursor {
 }
 
 // A user window. One that is not defined is all zeros; no defined one is 0 columns wide.
-#[derive(Clone, Copy)]
+#[derive(Clone, Copy, PartialEq, Eq, Default)]
 pub struct Window {
     pub left: u16,
     pub top: u16,
@@ -71,7 +71,7 @@ pub struct Window {
 }
 
 // The columns of one row written since the last refresh: from `first` to the one before `end`. Nothing is 0 and 0.
-#[derive(Clone, Copy)]
+#[derive(Clone, Copy, PartialEq, Eq, Default)]
 pub struct Span {
     pub first: u16,
     pub end: u16,
@@ -102,7 +102,7 @@ pub struct Rect {
 }
 
 // A setting that one byte gives, named by the command that sets it.
-#[derive(Clone, Copy)]
+#[derive(Clone, Copy, PartialEq, Eq)]
 pub enum Key {
     // 1Bh 52h
     Charset,
@@ -167,7 +167,7 @@ pub struct Batch {
 
 // A download's columns as they come: how many it has, 5 or 7, how many have come, and their bytes, leftmost first. One that has not
 // come is 0.
-#[derive(Clone, Copy)]
+#[derive(Clone, Copy, PartialEq, Eq, Default)]
 pub struct Columns {
     pub width: u8,
     pub come: u8,
@@ -329,7 +329,7 @@ pub enum Reading {
 }
 
 // What a byte of the stream came to: the numbers 9 to 19.
-#[derive(Clone, Copy)]
+#[derive(Clone, Copy, PartialEq, Eq)]
 pub enum Outcome {
     Unfinished,
     Carried,
@@ -345,7 +345,7 @@ pub enum Outcome {
 }
 
 // Why a call was refused: the numbers 1 to 8, 20 and 21, or that it was not.
-#[derive(Clone, Copy)]
+#[derive(Clone, Copy, PartialEq, Eq)]
 pub enum Refusal {
     Accepted,
     MemoryLength,
