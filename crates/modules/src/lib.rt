@@ -8,6 +8,7 @@ ghost use Rattle.paper.specs.Panel.{panel, memory_length, glass_length, font_len
 use paper::Module;
 
 // The 112 by 16 module.
+#[tactic(auto, unfolding(paper::specs::Panel::panel))]
 pub fn small() -> Module
     ensures { result ≡ panel }
 {

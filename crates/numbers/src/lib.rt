@@ -10,6 +10,8 @@ ghost use Rattle.paper.specs.Numbers.{refusal_number, outcome_number, carried_by
 use paper::{Outcome, Refusal};
 
 // The number of a refusal; 0 for a call that is not refused.
+// A match and not numbers in paper's enum: the edit hold_while_held_is_5 gives two refusals one number, which an enum refuses itself.
+#[tactic(auto, unfolding(paper::specs::Numbers::refusal_number))]
 pub fn refusal_number(r: Refusal) -> u32
     ensures { result ≡ refusal_number r }
 {
@@ -29,6 +31,8 @@ pub fn refusal_number(r: Refusal) -> u32
 }
 
 // The number of an outcome.
+// A match as above: the edits dropped_as_not_stored and not_stored_as_not_defined give two outcomes one number.
+#[tactic(auto, unfolding(paper::specs::Numbers::outcome_number))]
 pub fn outcome_number(o: Outcome) -> u32
     ensures { result ≡ outcome_number o }
 {
@@ -48,22 +52,24 @@ pub fn outcome_number(o: Outcome) -> u32
 }
 
 // What an outcome adds to the commands carried out.
+#[tactic(auto, unfolding(paper::specs::Numbers::carried_by, paper::specs::Numbers::outcome_number))]
 pub fn carried_by(o: Outcome) -> usize
     ensures { result ≡ carried_by o }
 {
-    if outcome_number(o) == 10 { 1 } else { 0 }
+    usize::from(o == Outcome::Carried)
 }
 
 // What an outcome adds to the commands answered 11 and above.
+#[tactic(auto, unfolding(paper::specs::Numbers::answered_by))]
 pub fn answered_by(o: Outcome) -> usize
     ensures { result ≡ answered_by o }
 {
-    if 11 <= outcome_number(o) { 1 } else { 0 }
+    usize::from(11 <= outcome_number(o))
 }
 
 // A 16-bit number of its two bytes, low byte first.
 pub fn word16(low: u8, high: u8) -> u16
     ensures { result ≡ word16 low high }
 {
-    (low as u16) + 256 * (high as u16)
+    u16::from_le_bytes([low, high])
 }
