@@ -10,6 +10,7 @@ ghost use Rattle.paper.specs.Bounds.{hold_ok, span_ok, spans_ok, state_ok, accep
 use paper::{Hold, Module, Span, Spans, State, Window};
 
 // While held: the held window is the selected one, and what the release puts back may be put back.
+#[tactic(auto, unfolding(paper::specs::Bounds::hold_ok))]
 fn hold_ok(g: Module, ws: [Window; 4], selected: u8, hold: Hold) -> bool
     ensures { result ≡ hold_ok g ws selected hold }
 {
@@ -28,44 +29,38 @@ fn hold_ok(g: Module, ws: [Window; 4], selected: u8, hold: Hold) -> bool
 }
 
 // The span is nothing, or its first column lies before its end, and its end in the memory.
+#[tactic(auto, unfolding(paper::specs::Bounds::span_ok))]
 fn span_ok(g: Module, p: Span) -> bool
     ensures { result ≡ span_ok g p }
 {
-    ((p.first == 0) & (p.end == 0)) | ((p.first < p.end) & ((p.end as usize) <= g.columns))
+    (p == Span::default()) | ((p.first < p.end) & ((p.end as usize) <= g.columns))
 }
 
 // The spans of the two rows.
 fn spans_ok(g: Module, ps: Spans) -> bool
     ensures { result ≡ spans_ok g ps }
 {
-    span_ok(g, ps[0]) & span_ok(g, ps[1])
+    ps.iter().all(|&p| span_ok(g, p))
 }
 
 // Whether the state, its downloads aside, keeps every bound.
+#[tactic(auto, unfolding(paper::specs::Bounds::state_ok))]
 fn state_ok(g: Module, s: State) -> bool
     ensures { result ≡ state_ok g s }
 {
-    let settings = s.settings;
-    let windows = s.windows;
-    let base = s.base;
-    let selected = s.selected;
-    let hold = s.hold;
-    let half = s.half;
-    let spans = s.spans;
-    accept_settings::settings_ok(g, settings)
-        & accept_windows::windows_ok(g, windows)
-        & accept_windows::cursor_ok(g.columns, g.rows, base)
-        & accept_windows::selectable(windows, selected)
-        & hold_ok(g, windows, selected, hold)
-        & accept_half::half_ok(g, half)
-        & spans_ok(g, spans)
+    accept_settings::settings_ok(g, s.settings)
+        & accept_windows::windows_ok(g, s.windows)
+        & accept_windows::cursor_ok(g.columns, g.rows, s.base)
+        & accept_windows::selectable(s.windows, s.selected)
+        & hold_ok(g, s.windows, s.selected, s.hold)
+        & accept_half::half_ok(g, s.half)
+        & spans_ok(g, s.spans)
 }
 
 // Whether the record, a state and its downloads, keeps every bound.
+#[tactic(auto, unfolding(paper::specs::Bounds::accepted))]
 pub fn is_accepted(g: Module, s: State, ds: &[u8]) -> bool
     ensures { result ≡ accepted g s ds.now }
 {
-    let hold = s.hold;
-    let half = s.half;
-    state_ok(g, s) & (accept_store::store_ok(ds) & accept_note::define_ok(ds, hold, half))
+    state_ok(g, s) & (accept_store::store_ok(ds) & accept_note::define_ok(ds, s.hold, s.half))
 }

@@ -8,28 +8,27 @@ ghost use Rattle.paper.specs.Bounds.{half_ok};
 use paper::{Half, Module};
 
 // What is half read is a proper beginning of a command.
+#[tactic(auto, unfolding(paper::specs::Bounds::half_ok))]
 pub fn half_ok(g: Module, half: Half) -> bool
     ensures { result ≡ half_ok g half }
 {
     match half {
-        Half::Nothing => true,
-        Half::Escape => true,
-        Half::Unit => true,
-        Half::Group => true,
-        Half::Actions => true,
-        Half::Images => true,
-        Half::Characters => true,
-        Half::Windows => true,
+        Half::Nothing
+        | Half::Escape
+        | Half::Unit
+        | Half::Group
+        | Half::Actions
+        | Half::Images
+        | Half::Characters
+        | Half::Windows => true,
         Half::Value(key) => accept_words::is_known(g, key),
-        Half::Rest { left } => (1 <= left) & (left <= 5),
-        Half::DownloadA => g.downloads,
-        Half::DownloadFrom => g.downloads,
+        Half::Rest { left } => (1..=5).contains(&left),
+        Half::DownloadA | Half::DownloadFrom => g.downloads,
         Half::DownloadTo { from } => g.downloads & (0x20 <= from),
         Half::GlyphWidth { batch, .. } => g.downloads & accept_define::batch_ok(batch),
         Half::GlyphByte { batch, columns, .. } => g.downloads
             & (accept_define::batch_ok(batch) & accept_define::columns_ok(columns)),
-        Half::Low(word) => accept_words::word_ok(g, word),
-        Half::High { word, .. } => accept_words::word_ok(g, word),
+        Half::Low(word) | Half::High { word, .. } => accept_words::word_ok(g, word),
         Half::ImageKind { width, height } => accept_words::is_size(g.columns, width)
             & accept_words::is_size(g.rows, height),
         Half::ImageData {
@@ -41,12 +40,8 @@ pub fn half_ok(g: Module, half: Half) -> bool
             accept_words::is_size(g.columns, width)
                 & (accept_words::is_size(g.rows, height) & ((column < width) & (row < height)))
         }
-        Half::EnlargeX => true,
-        Half::EnlargeY { .. } => true,
-        Half::SelectA => true,
-        Half::WindowA => true,
+        Half::EnlargeX | Half::EnlargeY { .. } | Half::SelectA | Half::WindowA => true,
         Half::WindowB { a } => accept_words::is_window(a),
-        Half::EraseA => g.downloads,
-        Half::EraseCode { .. } => g.downloads,
+        Half::EraseA | Half::EraseCode { .. } => g.downloads,
     }
 }

@@ -9,33 +9,32 @@ ghost use Rattle.paper.specs.Settings.{in_domain, in_enlargement};
 use paper::{Key, Module, Settings};
 
 // n is in the domain of the setting.
+#[tactic(auto, unfolding(paper::specs::Settings::in_domain))]
 pub fn in_domain(g: Module, key: Key, n: u8) -> bool
     ensures { result ≡ in_domain g key n }
 {
     match key {
         Key::Charset => n <= 13,
-        Key::Codes => (n <= 5) | (((16 <= n) & (n <= 19)) | (g.tables & (n == 0xFF))),
-        Key::Caret => n <= 1,
+        Key::Codes => (n <= 5) | ((16..=19).contains(&n) | (g.tables & (n == 0xFF))),
         Key::Brightness => {
-            ((g.dimmest <= n) & (n <= g.brightest)) | (g.finer & ((0x10 <= n) & (n <= 0x18)))
+            (g.dimmest..=g.brightest).contains(&n) | (g.finer & (0x10..=0x18).contains(&n))
         }
-        Key::Reverse => n <= 1,
         Key::Speed => n <= 31,
         Key::Mixing => n <= 3,
-        Key::Width => n <= 1,
-        Key::Write => n <= 1,
-        Key::Switch => n <= 1,
+        Key::Caret | Key::Reverse | Key::Width | Key::Write | Key::Switch => n <= 1,
     }
 }
 
 // x and y are an enlargement.
+#[tactic(auto, unfolding(paper::specs::Settings::in_enlargement))]
 pub fn in_enlargement(x: u8, y: u8) -> bool
     ensures { result ≡ in_enlargement x y }
 {
-    ((1 <= x) & (x <= 4)) & ((1 <= y) & (y <= 2))
+    (1..=4).contains(&x) & (1..=2).contains(&y)
 }
 
 // Each setting is in its domain.
+#[tactic(auto, unfolding(paper::specs::Bounds::settings_ok))]
 pub fn settings_ok(g: Module, v: Settings) -> bool
     ensures { result ≡ settings_ok g v }
 {

@@ -9,22 +9,23 @@ ghost use Rattle.paper.specs.Settings.{is_defined, selectable, fits};
 use paper::{Cursor, Module, Window};
 
 // The cursor is inside its window, of `width` columns and `height` rows, and its mode is one of MD1 to MD3.
+#[tactic(auto, unfolding(paper::specs::Bounds::cursor_ok))]
 pub fn cursor_ok(width: usize, height: usize, k: Cursor) -> bool
     ensures { result ≡ cursor_ok width height k }
 {
-    ((k.x as usize) < width) & (((k.y as usize) < height) & ((1 <= k.mode) & (k.mode <= 3)))
+    ((k.x as usize) < width) & (((k.y as usize) < height) & (1..=3).contains(&k.mode))
 }
 
 // The record of a window that is not defined.
+#[tactic(auto, unfolding(paper::specs::Bounds::is_blank))]
 fn is_blank(w: Window) -> bool
     ensures { result ≡ is_blank w }
 {
-    let k = w.cursor;
-    let blank_cursor = (k.x == 0) & ((k.y == 0) & (k.mode == 0));
-    (w.left == 0) & ((w.top == 0) & ((w.width == 0) & ((w.height == 0) & blank_cursor)))
+    w == Window::default()
 }
 
 // The rectangle has a column and a row, and does not leave the memory.
+#[tactic(auto, unfolding(paper::specs::Settings::fits))]
 pub fn fits(g: Module, left: u16, top: u16, width: u16, height: u16) -> bool
     ensures { result ≡ fits g left top width height }
 {
@@ -34,6 +35,7 @@ pub fn fits(g: Module, left: u16, top: u16, width: u16, height: u16) -> bool
 }
 
 // The window is not defined, or it and its cursor are where they may be.
+#[tactic(auto, unfolding(paper::specs::Bounds::window_ok))]
 fn window_ok(g: Module, w: Window) -> bool
     ensures { result ≡ window_ok g w }
 {
@@ -45,10 +47,11 @@ fn window_ok(g: Module, w: Window) -> bool
 }
 
 // The four user windows.
+#[tactic(auto, unfolding(paper::specs::Bounds::windows_ok))]
 pub fn windows_ok(g: Module, ws: [Window; 4]) -> bool
     ensures { result ≡ windows_ok g ws }
 {
-    window_ok(g, ws[0]) & window_ok(g, ws[1]) & window_ok(g, ws[2]) & window_ok(g, ws[3])
+    ws.iter().all(|&w| window_ok(g, w))
 }
 
 // The window is defined.
@@ -59,15 +62,9 @@ fn is_defined(w: Window) -> bool
 }
 
 // k is the base window or a defined user window.
+#[tactic(auto, unfolding(paper::specs::Settings::selectable))]
 pub fn selectable(ws: [Window; 4], k: u8) -> bool
     ensures { result ≡ selectable ws k }
 {
-    match k {
-        0 => true,
-        1 => is_defined(ws[0]),
-        2 => is_defined(ws[1]),
-        3 => is_defined(ws[2]),
-        4 => is_defined(ws[3]),
-        _ => false,
-    }
+    k == 0 || ws.get(k as usize - 1).is_some_and(|&w| is_defined(w))
 }

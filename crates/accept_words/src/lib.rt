@@ -13,46 +13,46 @@ use paper::{Key, Module, Word};
 pub fn is_window(a: u8) -> bool
     ensures { result ≡ between 1 4 a }
 {
-    (1 <= a) & (a <= 4)
+    (1..=4).contains(&a)
 }
 
 // n is an image's size in a memory of `most` columns or rows.
 pub fn is_size(most: usize, n: u16) -> bool
     ensures { result ≡ between 1 most n }
 {
-    (1 <= n) & ((n as usize) <= most)
+    (1..=most).contains(&usize::from(n))
 }
 
 // The parameters before an awaited 16-bit parameter.
+#[tactic(auto, unfolding(paper::specs::Bounds::word_ok))]
 pub fn word_ok(g: Module, word: Word) -> bool
     ensures { result ≡ word_ok g word }
 {
     match word {
-        Word::CursorX => true,
-        Word::CursorY { .. } => true,
-        Word::WindowLeft { a } => is_window(a),
-        Word::WindowTop { a, .. } => is_window(a),
-        Word::WindowWidth { a, .. } => is_window(a),
-        Word::WindowHeight { a, .. } => is_window(a),
-        Word::ImageWidth => true,
+        Word::CursorX | Word::CursorY { .. } | Word::ImageWidth => true,
+        Word::WindowLeft { a }
+        | Word::WindowTop { a, .. }
+        | Word::WindowWidth { a, .. }
+        | Word::WindowHeight { a, .. } => is_window(a),
         Word::ImageHeight { width } => is_size(g.columns, width),
     }
 }
 
 // The module knows the command that sets the setting.
+#[tactic(auto, unfolding(paper::specs::Reading::is_known))]
 pub fn is_known(g: Module, key: Key) -> bool
     ensures { result ≡ is_known g key }
 {
     match key {
-        Key::Charset => true,
-        Key::Codes => true,
-        Key::Caret => true,
-        Key::Brightness => true,
-        Key::Reverse => true,
-        Key::Speed => true,
-        Key::Mixing => true,
         Key::Width => g.widths,
-        Key::Write => true,
         Key::Switch => g.downloads,
+        Key::Charset
+        | Key::Codes
+        | Key::Caret
+        | Key::Brightness
+        | Key::Reverse
+        | Key::Speed
+        | Key::Mixing
+        | Key::Write => true,
     }
 }
