@@ -7,33 +7,26 @@ ghost use Rattle.paper.specs.Downloads.{place, is_stored, is_dropped};
 
 // ---- where a code is
 
-// The first place that holds the code, their number where none does. A free place is one of code 0.
-pub fn place(ds: &[u8], code: u8) -> usize
-    ensures { result ≡ place ds.now code }
+// The first place that holds the code, if one does. A free place is one of code 0.
+pub fn place(ds: &[u8], code: u8) -> Option<usize>
+    ensures { result ≡ cond (is_stored ds.now code) (Some (place ds.now code)) None }
 {
-    let places = ds.len() / 9;
-    for k in 0..places {
-        if ds[9 * k] == code {
-            return k;
-        }
-    }
-    places
+    ds.chunks_exact(9).position(|p| p[0] == code)
 }
 
 // The code is stored.
 pub fn is_stored(ds: &[u8], code: u8) -> bool
     ensures { result ≡ is_stored ds.now code }
 {
-    place(ds, code) < ds.len() / 9
+    place(ds, code).is_some()
 }
 
 // The code is new and no place is free.
+#[tactic(auto, unfolding(paper::specs::Downloads::is_dropped))]
 pub fn is_dropped(ds: &[u8], code: u8) -> bool
     ensures { result ≡ is_dropped ds.now code }
 {
-    let new = !is_stored(ds, code);
-    let full = !is_stored(ds, 0);
-    new & full
+    !is_stored(ds, code) & !is_stored(ds, 0)
 }
 
 // ---- what is drawn
@@ -42,8 +35,5 @@ pub fn is_dropped(ds: &[u8], code: u8) -> bool
 pub fn in_force(ds: &[u8], switch: u8) -> &[u8]
     ensures { result.now ≡ cond (eqb switch 1) ds.now [] }
 {
-    if switch == 1 {
-        return ds;
-    }
-    &ds[0..0]
+    if switch == 1 { ds } else { &ds[0..0] }
 }

@@ -1,2 +1,2 @@
--- Laws of the loops, over which the functions' proofs stand.
-pub mod Turns
+-- Laws of the places, over which the functions' proofs stand.
+pub mod Written

@@ -2,39 +2,27 @@
 // It may use downloads to find a code, the paper and its laws; it knows no state.
 #![tactic(auto)]
 
-ghost use Rattle.std.specs.Prelude.{◌≡◌, ◌≤◌, min};
+ghost use Rattle.std.specs.Prelude.{◌≡◌, ◌≤◌, unwrap_or};
 ghost use Rattle.paper.specs.Downloads.{places_in, with_place, download_bytes, place_for, put_in, erased, all_erased};
 
 use paper::Columns;
 
-// The place that a code's download takes: its own, else the first free one. The number of places where there is neither.
-fn place_for(ds: &[u8], code: u8) -> usize
-    ensures { result ≡ place_for ds.now code }
+// The place that a code's download takes: its own, else the first free one, if there is either.
+#[tactic(auto, unfolding(paper::specs::Downloads::place_for))]
+fn place_for(ds: &[u8], code: u8) -> Option<usize>
+    ensures { unwrap_or result (places_in ds.now) ≡ place_for ds.now code }
 {
-    let own = downloads::place(ds, code);
-    if own < ds.len() / 9 {
-        return own;
-    }
-    downloads::place(ds, 0)
+    downloads::place(ds, code).or_else(|| downloads::place(ds, 0))
 }
 
-// The smaller of two numbers.
-fn least(a: usize, b: usize) -> usize
-    ensures { result ≡ min a b }
+// Writes a place. Past the last one there is nothing to write, or as many bytes as there are.
+fn write_place(ds: &mut [u8], place: Option<usize>, bytes: [u8; 9])
+    requires { unwrap_or place (places_in ds.old) ≤ places_in ds.old }
+    ensures { ds.new ≡ with_place ds.old (unwrap_or place (places_in ds.old)) bytes }
 {
-    if a < b { a } else { b }
-}
-
-// Writes place k. After the last place there is nothing to write, or as many bytes as there are.
-fn write_place(ds: &mut [u8], k: usize, bytes: [u8; 9])
-    requires { k ≤ places_in ds.old }
-    ensures { ds.new ≡ with_place ds.old k bytes }
-{
-    let from = 9 * k;
-    let count = least(9, ds.len() - from);
-    for r in 0..count {
-        ds[from + r] = bytes[r];
-    }
+    let from = 9 * place.unwrap_or(ds.len() / 9);
+    let count = (ds.len() - from).min(9);
+    ds[from..from + count].copy_from_slice(&bytes[..count]);
 }
 
 // A download's bytes: the code, the width, and the columns.
@@ -45,28 +33,26 @@ fn download_bytes(code: u8, c: Columns) -> [u8; 9]
 }
 
 // Stores a download in its code's place or a free one. Where there is neither it is dropped, and nothing changes.
+#[tactic(auto, unfolding(paper::specs::Downloads::put_in))]
 pub fn put(ds: &mut [u8], code: u8, c: Columns)
     ensures { ds.new ≡ put_in ds.old code c }
 {
-    let k = place_for(ds, code);
-    let bytes = download_bytes(code, c);
-    write_place(ds, k, bytes);
+    let place = place_for(ds, code);
+    write_place(ds, place, download_bytes(code, c));
 }
 
 // Frees the code's place. Where it has none, nothing changes.
+#[tactic(auto, unfolding(paper::specs::Downloads::erased))]
 pub fn erase(ds: &mut [u8], code: u8)
     ensures { ds.new ≡ erased ds.old code }
 {
-    let k = downloads::place(ds, code);
-    let free: [u8; 9] = [0; 9];
-    write_place(ds, k, free);
+    let place = downloads::place(ds, code);
+    write_place(ds, place, [0; 9]);
 }
 
 // Frees every place.
 pub fn erase_all(ds: &mut [u8])
     ensures { ds.new ≡ all_erased ds.old }
 {
-    for a in 0..ds.len() {
-        ds[a] = 0;
-    }
+    ds.fill(0);
 }

@@ -1,14 +1,11 @@
 -- `downloads_write::place_for` meets its contract. Assumes nothing.
-use borrow.Author.Tests.{lt-ltb, le-ltb}
-use Rattle.paper.specs.Downloads.{place_for}
+use mathlib.Core.Path.{◌≡◌}
+use borrow.Author.Rules.{rules}
+use Rattle.std.proofs.Common.{MatchOption, Some}
+use Rattle.downloads_write.proofs.Written.{place_of, own_or_free}
 use Rattle.downloads_write.proofs.place_for.Goals as goal
 
-pub returns-then-own-ds : goal.returns-then-own-ds
-unfolding place_for
-returns-then-own-ds c =
-    rw (← c.place-own.ensures, lt-ltb _ _ c.if-own-ds.true)
-
 pub returns : goal.returns
-unfolding place_for
 returns c =
-    rw (← c.place-own.ensures, le-ltb _ _ c.if-own-ds.false) c.place.ensures
+    let h : MatchOption c.place.result (c.or_else.result ≡ place_of c.args.ds.now 0) (λ k. c.or_else.result ≡ Some k) = search rules in
+    own_or_free c.args.ds.now c.args.code _ _ c.place.ensures h
