@@ -1,2 +1,3 @@
--- The law over which the functions' proofs stand.
+-- The laws over which the functions' proofs stand.
 pub mod Places
+pub mod Zeros

@@ -2,38 +2,40 @@
 // It may use the paper, its laws, and downloads for the place of a code. `store_ok` is the call.
 #![tactic(auto)]
 
-ghost use Rattle.std.specs.Prelude.{◌≡◌, ◌<◌, length};
-ghost use Rattle.paper.specs.Downloads.{store_length};
+ghost use Rattle.std.specs.Prelude.{◌≡◌, ◌<◌, eqb};
+ghost use Rattle.std.specs.List.{list_all};
 ghost use Rattle.paper.specs.Bounds.{is_free, download_ok, place_ok, store_ok};
 ghost use Rattle.accept_store.specs.Tests.{all_free, places_ok};
 
+// The bytes of 16 places of nine.
+const STORE: usize = 144;
+
+// Each byte is 0. A fold that tests them all, and not `all`, which may stop: the compiler takes many at a time, and every call asks.
+fn all_zero(bytes: &[u8]) -> bool
+    ensures { result ≡ list_all (λ b. eqb b 0) bytes.now }
+{
+    bytes.iter().fold(true, |zero, &b| zero & (b == 0))
+}
+
 // A free place is all zeros.
-fn is_free(ds: &[u8], k: usize) -> bool
-    requires { (length ds.now ≡ store_length) × (k < 16) }
+fn is_free(ds: &[u8; STORE], k: usize) -> bool
+    requires { k < 16 }
     ensures { result ≡ is_free ds.now k }
 {
-    let mut free = true;
-    for j in 0..9 {
-        free = free & (ds[9 * k + j] == 0);
-    }
-    free
+    all_zero(&ds[9 * k..9 * k + 9])
 }
 
 // Nothing is stored.
-fn all_free(ds: &[u8]) -> bool
-    requires { length ds.now ≡ store_length }
+fn all_free(ds: &[u8; STORE]) -> bool
     ensures { result ≡ all_free ds.now }
 {
-    let mut free = true;
-    for k in 0..16 {
-        free = free & is_free(ds, k);
-    }
-    free
+    all_zero(ds)
 }
 
 // A code of 20h or more, five columns or seven, and nothing in the columns that five do not use.
-fn download_ok(ds: &[u8], k: usize) -> bool
-    requires { (length ds.now ≡ store_length) × (k < 16) }
+#[tactic(auto, unfolding(paper::specs::Bounds::download_ok))]
+fn download_ok(ds: &[u8; STORE], k: usize) -> bool
+    requires { k < 16 }
     ensures { result ≡ download_ok ds.now k }
 {
     let at = 9 * k;
@@ -43,38 +45,31 @@ fn download_ok(ds: &[u8], k: usize) -> bool
 }
 
 // A place is free, or its download is whole and its code stands in no place before.
-fn place_ok(ds: &[u8], k: usize) -> bool
-    requires { (length ds.now ≡ store_length) × (k < 16) }
+#[tactic(auto, unfolding(paper::specs::Bounds::place_ok))]
+fn place_ok(ds: &[u8; STORE], k: usize) -> bool
+    requires { k < 16 }
     ensures { result ≡ place_ok ds.now k }
 {
     if is_free(ds, k) {
         return true;
     }
-    let first = downloads::place(ds, ds[9 * k]);
-    download_ok(ds, k) & (first == k)
+    download_ok(ds, k) & (downloads::place(ds, ds[9 * k]) == Some(k))
 }
 
 // Each place.
-fn places_ok(ds: &[u8]) -> bool
-    requires { length ds.now ≡ store_length }
+fn places_ok(ds: &[u8; STORE]) -> bool
     ensures { result ≡ places_ok ds.now }
 {
-    let mut ok = true;
-    for k in 0..16 {
-        ok = ok & place_ok(ds, k);
-    }
-    ok
+    (0..16).all(|k| place_ok(ds, k))
 }
 
 // The downloads are accepted. Most often nothing is stored.
+#[tactic(auto, unfolding(paper::specs::Bounds::store_ok))]
 pub fn store_ok(ds: &[u8]) -> bool
     ensures { result ≡ store_ok ds.now }
 {
-    if ds.len() != 144 {
+    let Some(ds) = ds.as_array::<STORE>() else {
         return false;
-    }
-    if all_free(ds) {
-        return true;
-    }
-    places_ok(ds)
+    };
+    all_free(ds) || places_ok(ds)
 }

@@ -36,6 +36,7 @@ pub fn define_answer(held: bool, dropped: bool) -> Outcome
 }
 
 // Erases a code, and gives what that is answered. It knows no state, so that its answers meet before one is built.
+#[tactic(auto, unfolding(paper::specs::Numbers::outcome_number))]
 pub fn erase_one(store: &mut [u8], held: bool, a: u8, code: u8) -> Outcome
     ensures { (result ≡ erase_answer held store.old a code)
         × (store.new ≡ erased_if held store.old a code) }

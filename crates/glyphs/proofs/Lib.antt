@@ -1,3 +1,2 @@
--- Laws that belong to no one function: of the blanks, and of where a glyph's columns stand.
-mod Blanks
+-- Laws that belong to no one function: where a glyph's columns stand.
 pub mod Parts

@@ -27,6 +27,7 @@ fn blank_columns(g: Module, w: u8) -> usize
 }
 
 // How many columns a cell has.
+#[tactic(auto, unfolding(paper::specs::Cells::cell_width))]
 pub fn cell_width(g: Module, w: u8, style: Style) -> usize
     requires { g.glyph ≤ 8 }
     ensures { result ≡ cell_width g w style }
@@ -80,12 +81,12 @@ fn columns_at(own: &[u8], k: usize) -> &[u8]
 }
 
 // The columns of a code's download, none where it is not stored.
+#[tactic(auto, unfolding(crate::specs::Own::own_columns))]
 pub fn own_glyph(own: &[u8], code: u8) -> &[u8]
     ensures { result.now ≡ own_columns own.now code }
 {
-    let k = downloads::place(own, code);
-    if k < own.len() / 9 {
-        return columns_at(own, k);
+    match downloads::place(own, code) {
+        Some(k) => columns_at(own, k),
+        None => &own[0..0],
     }
-    &own[0..0]
 }

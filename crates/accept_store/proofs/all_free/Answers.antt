@@ -1,22 +1,9 @@
--- `accept_store::all_free` meets its contract. The loop's invariant: the places so far are tested. Assumes nothing.
-use mathlib.Core.Path.{◌≡◌, refl}
-use Prim.Native.Nat.{◌≤◌, ◌-◌}
-use native.Mathlib.Omega.{arith}
+-- `accept_store::all_free` meets its contract: its bytes are the places'. Assumes nothing.
+use mathlib.Core.Path.{◌∙◌}
 use borrow.Author.Rules.{rules}
-use Rattle.paper.specs.Bounds.{all_below, is_free}
-use Rattle.laws_downloads.proofs.Tests.{below_next, below_end}
+use Rattle.accept_store.proofs.Zeros.{zeros_free}
 use Rattle.accept_store.proofs.all_free.Goals as goal
-
-pub loop-k-init : goal.loop-k-init
-loop-k-init c =
-    (omega arith, refl)
-
-pub loop-k-preserved : goal.loop-k-preserved
-loop-k-preserved c =
-    let l = c.loop-k in
-    (omega arith, below_next (is_free c.args.ds.now) l.k l.invariant.1 c.is_free-free.ensures)
 
 pub returns : goal.returns
 returns c =
-    let l = c.loop-k in
-    below_end (is_free c.args.ds.now) l.k 16 l.invariant.1 (omega arith)
+    c.all_zero.ensures ∙ zeros_free c.args.ds.now (search rules)

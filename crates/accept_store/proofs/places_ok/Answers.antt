@@ -1,22 +1,14 @@
--- `accept_store::places_ok` meets its contract. The loop's invariant: the places so far are tested. Assumes nothing.
-use mathlib.Core.Path.{◌≡◌, refl}
-use Prim.Native.Nat.{◌≤◌, ◌-◌}
-use native.Mathlib.Omega.{arith}
+-- `accept_store::places_ok` meets its contract: place by place. Assumes nothing.
+use mathlib.Core.Path.{refl, ◌∙◌}
 use borrow.Author.Rules.{rules}
-use Rattle.paper.specs.Bounds.{all_below, place_ok}
-use Rattle.laws_downloads.proofs.Tests.{below_next, below_end}
+use borrow.Author.Tests.{tests}
+use Rattle.std.proofs.lemmas.Iterator.{YieldsList-from_range}
+use Rattle.std.proofs.lemmas.Iterator.Search.{all_from_yields_List}
+use Rattle.paper.specs.Bounds.{place_ok}
+use Rattle.downloads.proofs.Listed.{range_tested}
 use Rattle.accept_store.proofs.places_ok.Goals as goal
-
-pub loop-k-init : goal.loop-k-init
-loop-k-init c =
-    (omega arith, refl)
-
-pub loop-k-preserved : goal.loop-k-preserved
-loop-k-preserved c =
-    let l = c.loop-k in
-    (omega arith, below_next (place_ok c.args.ds.now) l.k l.invariant.1 c.place_ok-ok.ensures)
 
 pub returns : goal.returns
 returns c =
-    let l = c.loop-k in
-    below_end (place_ok c.args.ds.now) l.k 16 l.invariant.1 (omega arith)
+    all_from_yields_List (place_ok c.args.ds.now) _ _ _ c.all.ensures.ran (YieldsList-from_range 0 16 16 refl refl) (λ x b q k. search (rules, tests))
+    ∙ range_tested (place_ok c.args.ds.now) 0 16

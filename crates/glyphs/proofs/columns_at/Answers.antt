@@ -1,14 +1,9 @@
 -- `glyphs::columns_at` meets its contract, by its test: a download's columns stand in its place. Assumes nothing.
 use Prim.Native.Nat.{◌+◌, ◌*◌}
 use native.Mathlib.Omega.{arith}
-use borrow.Author.Tests.{eq-eqb, ne_eqb}
+use borrow.Author.Tests.{ne_eqb}
 use Rattle.glyphs.proofs.Parts.{part_bytes}
 use Rattle.glyphs.proofs.columns_at.Goals as goal
-
-pub returns-then-own-k-eq5 : goal.returns-then-own-k-eq5
-returns-then-own-k-eq5 c =
-    let a = c.args in
-    rw (eq-eqb _ _ c.if-own-k-eq5.true) (part_bytes 5 (9 * a.k + 2) a.own.now (omega arith))
 
 pub returns : goal.returns
 returns c =

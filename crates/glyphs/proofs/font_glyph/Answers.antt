@@ -4,15 +4,6 @@ use native.Mathlib.Omega.{arith}
 use Rattle.glyphs.proofs.Parts.{part_bytes, glyph_in}
 use Rattle.glyphs.proofs.font_glyph.Goals as goal
 
-pub overflow_mul-first : goal.overflow_mul-first
-overflow_mul-first c = omega (arith, glyph_in c.args.g c.args.code c.requires.1 (omega arith))
-
-pub overflow_add-end : goal.overflow_add-end
-overflow_add-end c = omega (arith, glyph_in c.args.g c.args.code c.requires.1 (omega arith))
-
-pub slice_bounds-result-end : goal.slice_bounds-result-end
-slice_bounds-result-end c = omega (arith, glyph_in c.args.g c.args.code c.requires.1 (omega arith))
-
 pub returns : goal.returns
 returns c =
     let a = c.args in

@@ -1,2 +1,0 @@
--- The law over which the functions' proofs stand.
-pub mod Halves
