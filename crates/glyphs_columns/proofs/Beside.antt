@@ -6,7 +6,7 @@ use native.Mathlib.Nat.{zero-div, zero-mul}
 use native.Mathlib.Omega.{arith}
 use borrow.Author.Tests.{le-leb, lt-leb, le-ltb, lt-ltb}
 use lib.ListN.{length, get_or}
-use Rattle.glyphs_columns.specs.declared.Lift.{Lift}
+use Rattle.glyphs_columns.specs.declared.lift.Lift.{Lift}
 use Rattle.glyphs_columns.specs.Columns.{fetched_of, lifted_of}
 
 -- a column without a dot has none, wherever it is placed

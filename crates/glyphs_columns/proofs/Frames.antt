@@ -2,16 +2,17 @@
 use mathlib.Core.Path.{◌≡◌, refl}
 use mathlib.Core.Bool.{Bool, true, false, cond, ◌&&◌}
 use mathlib.Core.List.{List}
-use Prim.Native.Nat.{ℕ, zero, suc, ◌*◌, ◌/◌, ◌^◌, ◌<◌, ◌≤◌}
+use Prim.Native.Nat.{ℕ, ◌*◌, ◌/◌, ◌^◌}
 use native.Mathlib.Omega.{arith}
+use Rattle.std.proofs.Common.{lit≤}
 use lib.Dec.{eqb}
 use lib.ListN.{length}
 use borrow.Author.Tests.{eq-eqb, ne_eqb}
 use Rattle.paper.specs.declared.Module.{Module}
 use Rattle.paper.specs.Panel.{is_framed}
 use Rattle.laws_bytes.specs.Bytes.{placed_byte}
-use Rattle.glyphs_columns.specs.declared.Lift.{Lift}
-use Rattle.glyphs_columns.specs.Columns.{placing_of}
+use Rattle.glyphs_columns.specs.declared.lift.Lift.{Lift}
+use Rattle.glyphs_columns.specs.Columns.{back_one, placing_of}
 
 -- a glyph with as many columns as the font's have is framed where they are, and no other is
 module _ (g : Module) (cols : List ℕ) where
@@ -29,29 +30,13 @@ module _ (g : Module) (cols : List ℕ) where
 
 -- the placing by the two tests
 abbrev lift_by : Bool → Bool → Lift
-lift_by f t = cond f (record { down = 1; up = cond t 1 0 }) (record { down = 0; up = 0 })
+lift_by f t =
+    cond f (record { down = 1; up = cond t 1 0; one = lit≤ tt; back = back_one t }) (record { down = 0; up = 0; one = lit≤ tt; back = lit≤ tt })
 
--- a glyph's dots go one down at most, and no further up
-pub placing_small : (f : Bool) (row : ℕ) → ((placing_of f row).down ≤ 1) × ((placing_of f row).up ≤ (placing_of f row).down)
-placing_small f row = go f (eqb row 0) where
-  go : (f t : Bool) → ((lift_by f t).down ≤ 1) × ((lift_by f t).up ≤ (lift_by f t).down)
-  go true true = (omega arith, omega arith)
-  go true false = (omega arith, omega arith)
-  go false t = (omega arith, omega arith)
-
--- and a column so placed is the one on that row
+-- a column so placed is the one on that row
 pub placed_byte_lem : (f : Bool) (row v : ℕ) → v / 2 ^ (placing_of f row).down * 2 ^ (placing_of f row).up ≡ placed_byte f row v
 placed_byte_lem f row v = go f (eqb row 0) where
   go : (f t : Bool) → v / 2 ^ (lift_by f t).down * 2 ^ (lift_by f t).up ≡ cond f (cond t (v / 2 * 2) (v / 2)) v
   go true true = refl
   go true false = omega arith
   go false t = omega arith
-
--- which is a byte
-pub lift_lt : (v d u : ℕ) → d ≤ 1 → u ≤ d → v < 256 → v / 2 ^ d * 2 ^ u < 256
-lift_lt v zero zero a b h = omega arith
-lift_lt v zero (suc u) a b h = absurd (omega arith)
-lift_lt v (suc zero) zero a b h = omega arith
-lift_lt v (suc zero) (suc zero) a b h = omega arith
-lift_lt v (suc zero) (suc (suc u)) a b h = absurd (omega arith)
-lift_lt v (suc (suc d)) u a b h = absurd (omega arith)

@@ -1,12 +1,13 @@
 -- The columns of a cell in bytes, and how many stand beside a glyph. Assumes nothing.
-use Rattle.std.specs.Prelude.{Bool, cond, List, ℕ, ◌+◌, ◌-◌, ◌*◌, ◌/◌, ◌^◌, eqb, length, get_or}
+use Rattle.std.specs.Prelude.{Bool, true, false, cond, List, ℕ, ◌+◌, ◌-◌, ◌*◌, ◌/◌, ◌^◌, ◌≤◌, eqb, length, get_or}
+use Rattle.std.proofs.Common.{lit≤}
 use Rattle.std.specs.Int.Bits.{bit_and, bit_or, bit_xor}
 use Rattle.paper.specs.declared.Module.{Module}
 use Rattle.paper.specs.declared.Style.{Style}
 use Rattle.paper.specs.Strokes.{among}
 use Rattle.paper.specs.Cells.{blanks_left}
 use Rattle.laws_bytes.specs.Bytes.{placed_byte, glyph_column, tall_byte, reversed_byte}
-use Rattle.glyphs_columns.specs.declared.Lift.{Lift}
+use Rattle.glyphs_columns.specs.declared.lift.Lift.{Lift}
 use Rattle.glyphs_columns.specs.declared.Tall.{Tall}
 
 -- column k of a cell: after the blank columns the glyph's, then blank
@@ -54,9 +55,14 @@ blank_right framed = cond framed 1 0
 abbrev pub plain_width : Module → ℕ → ℕ
 plain_width g w = blanks_left g.framed w + g.glyph + blank_right g.framed
 
+-- no further up than down
+pub back_one : (t : Bool) → cond t 1 0 ≤ 1
+back_one true = lit≤ tt
+back_one false = lit≤ tt
+
 -- how a glyph's column is placed on a row of memory: framed, one dot down, and up again on row 0
 abbrev pub framed_on : ℕ → Lift
-framed_on row = record { down = 1; up = cond (eqb row 0) 1 0 }
+framed_on row = record { down = 1; up = cond (eqb row 0) 1 0; one = lit≤ tt; back = back_one (eqb row 0) }
 
 abbrev pub placing_of : Bool → ℕ → Lift
-placing_of framed row = cond framed (framed_on row) (record { down = 0; up = 0 })
+placing_of framed row = cond framed (framed_on row) (record { down = 0; up = 0; one = lit≤ tt; back = lit≤ tt })

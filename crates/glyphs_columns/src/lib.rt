@@ -3,11 +3,14 @@
 // A row of a column is fetched, placed, stretched and reversed.
 #![tactic(auto)]
 
-ghost use Rattle.std.specs.Prelude.{◌≡◌, ◌*◌, ◌/◌, ◌^◌, ◌≤◌, ◌<◌};
+ghost use Rattle.std.specs.Prelude.{◌≡◌, ◌≤◌, ◌<◌};
 ghost use Rattle.paper.specs.Cells.{blanks_left};
 ghost use Rattle.laws_bytes.specs.Bytes.{double, tall_byte, reversed_byte, mixed_byte};
-ghost use Rattle.glyphs_columns.specs.Columns.{fetched_of, mixed_by, blank_right, framed_on, placing_of};
+ghost use Rattle.glyphs_columns.specs.Columns.{fetched_of, mixed_by, blank_right};
 
+pub mod lift;
+
+pub use lift::Lift;
 use paper::Style;
 
 // A column of a cell repeated downwards: the bytes of its two rows. A cell one row high has the first alone.
@@ -28,7 +31,7 @@ pub fn blanks_left(framed: bool, w: u8) -> usize
 pub fn blank_right(framed: bool) -> usize
     ensures { (result ≡ blank_right framed) × (result ≤ 1) }
 {
-    if framed { 1 } else { 0 }
+    usize::from(framed)
 }
 
 // Column k of a cell: after the blank columns the glyph's, then blank.
@@ -43,41 +46,6 @@ pub fn fetched(cols: &[u8], blanks: usize, k: usize) -> u8
         return 0;
     }
     cols[j]
-}
-
-// How the dots of a glyph's column are placed on a row of memory: so many down, and up again. What they leave is blank.
-#[derive(Clone, Copy)]
-pub struct Lift {
-    pub down: u8,
-    pub up: u8,
-}
-
-// A framed glyph's: on row 0 the blank dot is below, on any other above.
-fn framed_on(row: usize) -> Lift
-    ensures { result ≡ framed_on row }
-{
-    if row == 0 {
-        return Lift { down: 1, up: 1 };
-    }
-    Lift { down: 1, up: 0 }
-}
-
-// Any glyph's: one that is not framed stays as it is.
-pub fn placing(framed: bool, row: usize) -> Lift
-    ensures { (result ≡ placing_of framed row) × (result.down ≤ 1) × (result.up ≤ result.down) }
-{
-    if framed {
-        return framed_on(row);
-    }
-    Lift { down: 0, up: 0 }
-}
-
-// A glyph's column so placed. It has no test, so that a loop of it has none.
-pub fn placed(p: Lift, v: u8) -> u8
-    requires { (p.down ≤ 1) × (p.up ≤ p.down) }
-    ensures { result ≡ v / 2 ^ p.down * 2 ^ p.up }
-{
-    (v >> p.down) << p.up
 }
 
 // A byte of four dots, each twice: the dots moved apart, then each put beside itself.
@@ -114,16 +82,12 @@ pub fn reversed(style: Style, v: u8) -> u8
 pub fn mixed_by(mixing: u8, v: u8, old: u8) -> u8
     ensures { result ≡ mixed_by mixing v old }
 {
-    if mixing == 0 {
-        return v;
+    match mixing {
+        0 => v,
+        1 => old | v,
+        2 => old & v,
+        _ => old ^ v,
     }
-    if mixing == 1 {
-        return old | v;
-    }
-    if mixing == 2 {
-        return old & v;
-    }
-    old ^ v
 }
 
 // And by the style's.
