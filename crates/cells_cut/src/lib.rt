@@ -11,17 +11,17 @@ ghost use Rattle.cells_cut.specs.Whole.{is_whole};
 use glyphs_columns::Lift;
 use paper::Style;
 
-// Whether all of a cell is there, `glyph` columns after at most one blank, and no column repeated more than four times.
+// Whether all of a cell is there, `glyph` columns after at most one blank and before at most one, and no column repeated more than four times.
 pub fn is_whole(
     glyph: usize,
     blanks: usize,
-    p: Lift,
+    right: u8,
     style: Style,
     width: usize,
     height: usize,
 ) -> bool
-    requires { (1 ≤ style.across) × (p.down ≤ 1) × (width ≤ 65536) }
-    ensures { result ≡ is_whole glyph blanks p style width height }
+    requires { (1 ≤ style.across) × (right ≤ 1) × (width ≤ 65536) }
+    ensures { result ≡ is_whole glyph blanks right style width height }
 {
     let n = style.across;
     if 1 < blanks {
@@ -36,7 +36,7 @@ pub fn is_whole(
     if height != style.down as usize {
         return false;
     }
-    width == (blanks + glyph + (p.down as usize)) * (n as usize)
+    width == (blanks + glyph + (right as usize)) * (n as usize)
 }
 
 // Row r of a cell of which only `width` columns are there: each is made by itself.
@@ -51,14 +51,14 @@ pub fn cut_row(
     s: usize,
     width: usize,
 )
-    requires down_bound { (p.down ≤ 1) × (p.up ≤ p.down) × (1 ≤ style.across) × (s ≤ 65536) × (length mem.old ≤ 65536) }
+    requires down_bound { (1 ≤ style.across) × (s ≤ 65536) × (length mem.old ≤ 65536) }
     requires width_in_bounds { from + s * width < length mem.old + s }
     ensures { mem.new ≡ laid (cell_stroke cols.now blanks p style r) s from width mem.old }
 {
     let n = style.across as usize;
     let mut a = from;
     for j in 0..width {
-        let v = glyphs_columns::placed(p, glyphs_columns::fetched(cols, blanks, j / n));
+        let v = p.placed(glyphs_columns::fetched(cols, blanks, j / n));
         let b = glyphs_columns::tall_byte(style.down, r, v);
         mem[a] = glyphs_columns::mixed_by(style.mixing, glyphs_columns::reversed(style, b), mem[a]);
         a += s;

@@ -10,7 +10,7 @@ use Rattle.paper.specs.declared.Style.{Style}
 use Rattle.laws_bytes.specs.Bytes.{double, tall_byte, reversed_byte}
 use Rattle.laws_laid.specs.Laid.{byte_turn, laid}
 use Rattle.laws_laid.proofs.Laid.{turned_none, turned_to_lem, columns_more}
-use Rattle.glyphs_columns.specs.declared.Lift.{Lift}
+use Rattle.glyphs_columns.specs.declared.lift.Lift.{Lift}
 use Rattle.glyphs_columns.specs.Columns.{lifted_of, fetched_of, row_byte, mixed_by, row_stroke}
 use Rattle.glyphs_columns.proofs.Beside.{lifted_none, fetched_left, fetched_glyph, fetched_right}
 

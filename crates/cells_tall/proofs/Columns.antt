@@ -12,7 +12,7 @@ use Rattle.laws_bytes.specs.Bytes.{double}
 use Rattle.laws_laid.specs.Laid.{Stroke, pair_turn, stacked, piled}
 use Rattle.laws_laid.proofs.Laid.{turned_none, turned_to_lem, turned_same, columns_more, columns_reach}
 use Rattle.laws_laid.proofs.Stacked.{stacked-piled}
-use Rattle.glyphs_columns.specs.declared.Lift.{Lift}
+use Rattle.glyphs_columns.specs.declared.lift.Lift.{Lift}
 use Rattle.glyphs_columns.specs.Columns.{lifted_of, fetched_of, row_stroke, whole_of}
 use Rattle.glyphs_columns.proofs.Beside.{lifted_none, fetched_left, fetched_glyph, fetched_right}
 use Rattle.cells_tall.specs.Both.{spread_of, reversed_both, both_stroke}

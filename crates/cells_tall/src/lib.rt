@@ -3,7 +3,7 @@
 // glyphs. It knows addresses, and how far apart columns lie, but neither dots nor rectangles.
 #![tactic(auto)]
 
-ghost use Rattle.std.specs.Prelude.{◌≡◌, ◌+◌, ◌*◌, ◌≤◌, ◌<◌, length};
+ghost use Rattle.std.specs.Prelude.{◌≡◌, ◌+◌, ◌*◌, ◌≤◌, ◌<◌, cond, length};
 ghost use Rattle.laws_laid.specs.Laid.{piled, stacked};
 ghost use Rattle.glyphs_columns.specs.Columns.{row_stroke, whole_of};
 ghost use Rattle.cells_tall.specs.Both.{spread_of, reversed_both, both_stroke};
@@ -39,7 +39,7 @@ fn store(mem: &mut [u8], a: usize, flip: bool, z: u16)
     mem[a + 1] = (y / 256) as u8;
 }
 
-// A column stored in n columns, which lie s apart from address a on.
+// A column stored in n columns, which lie s apart from address a on. Written out for speed, as cells_rows::put is.
 fn put_both(mem: &mut [u8], a: usize, s: usize, n: u8, flip: bool, z: u16)
     requires { (1 ≤ n) × (n ≤ 4) × (a + 1 + s * n < length mem.old + s) × (s ≤ 65536) × (length mem.old ≤ 65536) }
     ensures { mem.new ≡ stacked (both_stroke flip (λ j. z)) s a n mem.old }
@@ -75,9 +75,10 @@ fn edge(mem: &mut [u8], a: usize, s: usize, n: u8, flip: bool, blank: u16, count
     a + s * (n as usize)
 }
 
-// A whole cell in place of what stood there, from address `from` on, its columns s apart: a blank one on the left or none, the glyph's, and a
-// blank one on the right if the glyph has a blank dot. Each is stored n times.
-pub fn replace(
+// A whole cell, in place of what stood there or by exclusive or with it, from address `from` on, its columns s apart: a blank one on the left or
+// none, the glyph's, and a blank one on the right if the glyph has a blank dot. Each is stored n times. Which of the two is a const parameter,
+// so that no loop asks for it.
+pub fn whole<const FLIP: bool>(
     mem: &mut [u8],
     cols: &[u8],
     blanks: usize,
@@ -87,45 +88,18 @@ pub fn replace(
     s: usize,
     n: u8,
 )
-    requires blanks_bound { (blanks ≤ 1) × (p.down ≤ 1) × (p.up ≤ p.down) × (1 ≤ n) × (n ≤ 4) × (2 ≤ s) × (s ≤ 65536) × (length mem.old ≤ 65536) }
+    requires blanks_bound { (blanks ≤ 1) × (1 ≤ n) × (n ≤ 4) × (2 ≤ s) × (s ≤ 65536) × (length mem.old ≤ 65536) }
     requires n_in_bounds { from + 1 + s * (whole_of cols.now blanks p * n) < length mem.old + s }
-    ensures { mem.new ≡ piled (λ r. row_stroke cols.now blanks p style 2 r n 0) s from
+    ensures { mem.new ≡ piled (λ r. row_stroke cols.now blanks p style 2 r n (cond FLIP 3 0)) s from
         (whole_of cols.now blanks p * n) 2 mem.old }
 {
     let step = s * (n as usize);
     let blank = reversed_both(style, 0);
-    let mut a = edge(mem, from, s, n, false, blank, blanks);
-    for j in 0..cols.len() {
-        let z = spread(glyphs_columns::placed(p, cols[j]));
-        put_both(mem, a, s, n, false, reversed_both(style, z));
+    let mut a = edge(mem, from, s, n, FLIP, blank, blanks);
+    for &column in cols {
+        let z = spread(p.placed(column));
+        put_both(mem, a, s, n, FLIP, reversed_both(style, z));
         a += step;
     }
-    edge(mem, a, s, n, false, blank, p.down as usize);
-}
-
-// The same by exclusive or. It is a function of its own, so that no loop asks for the mixing.
-pub fn flip(
-    mem: &mut [u8],
-    cols: &[u8],
-    blanks: usize,
-    p: Lift,
-    style: Style,
-    from: usize,
-    s: usize,
-    n: u8,
-)
-    requires blanks_bound { (blanks ≤ 1) × (p.down ≤ 1) × (p.up ≤ p.down) × (1 ≤ n) × (n ≤ 4) × (2 ≤ s) × (s ≤ 65536) × (length mem.old ≤ 65536) }
-    requires n_in_bounds { from + 1 + s * (whole_of cols.now blanks p * n) < length mem.old + s }
-    ensures { mem.new ≡ piled (λ r. row_stroke cols.now blanks p style 2 r n 3) s from
-        (whole_of cols.now blanks p * n) 2 mem.old }
-{
-    let step = s * (n as usize);
-    let blank = reversed_both(style, 0);
-    let mut a = edge(mem, from, s, n, true, blank, blanks);
-    for j in 0..cols.len() {
-        let z = spread(glyphs_columns::placed(p, cols[j]));
-        put_both(mem, a, s, n, true, reversed_both(style, z));
-        a += step;
-    }
-    edge(mem, a, s, n, true, blank, p.down as usize);
+    edge(mem, a, s, n, FLIP, blank, p.down as usize);
 }

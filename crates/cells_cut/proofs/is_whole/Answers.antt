@@ -31,8 +31,8 @@ returns-then-width-glyph c =
     let a = c.args in
     rw (
       le-leb a.blanks 1 (omega arith),
-      ne_eqb a.width ((a.blanks + a.glyph + a.p.down) * a.style.across)
-          (too_wide a.glyph a.blanks a.p.down a.style.across a.width (omega arith) (omega arith)),
+      ne_eqb a.width ((a.blanks + a.glyph + a.right) * a.style.across)
+          (too_wide a.glyph a.blanks a.right a.style.across a.width (omega arith) (omega arith)),
     )
     (no (leb a.style.across 4) (eqb a.height a.style.down))
 
@@ -45,7 +45,7 @@ pub overflow_mul-result : goal.overflow_mul-result
 overflow_mul-result c =
     let a = c.args in
     let few : a.style.across ≤ 4 = omega arith in
-    omega (arith, mul-le-mul_left (a.blanks + a.glyph + a.p.down) few)
+    omega (arith, mul-le-mul_left (a.blanks + a.glyph + a.right) few)
 
 pub returns : goal.returns
 returns c =

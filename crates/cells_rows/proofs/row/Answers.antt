@@ -16,55 +16,46 @@ reaches : (from s n whole len a k : ℕ) → from + s * (whole * n) < len + s �
 reaches from s n whole len a k h l e = omega (arith, e, columns_reach from s n k 1 whole len (omega arith) h)
 
 pub overflow_mul-step : goal.overflow_mul-step
-overflow_mul-step c =
-    omega (arith, mul-le-mul_left c.args.s c.requires.blanks_bound.4)
+overflow_mul-step g c =
+    omega (arith, mul-le-mul_left c.args.s c.requires.blanks_bound.2)
 
 pub edge-a-requires : goal.edge-a-requires
-edge-a-requires c =
+edge-a-requires g c =
     let a = c.args in
     let reach = columns_reach a.from a.s a.n 0 a.blanks (whole_of a.cols.now a.blanks a.p) _ (omega arith) c.requires.n_in_bounds in
-    let q = c.requires.blanks_bound in
-    record { count_bound = (q.0, q.3, q.4, q.5, q.6); n_in_bounds = omega (arith, reach) }
+    record { count_bound = c.requires.blanks_bound; n_in_bounds = omega (arith, reach) }
 
-pub loop-j-init : goal.loop-j-init
-loop-j-init c =
+pub loop-column-init : goal.loop-column-init
+loop-column-init g c =
     let a = c.args in
     let none : a.blanks ≡ a.blanks + 0 = omega arith in (
       omega arith,
       refl,
       c.edge-a.ensures.1 ∙ ap (λ (k : ℕ). a.from + a.s * (k * a.n)) none,
-      λ m e. turned_to_lem (byte_turn (row_stroke a.cols.now a.blanks a.p a.style a.down a.r a.n a.mixing) a.s a.from) _ _ m _ e
+      λ m e. turned_to_lem (byte_turn (row_stroke a.cols.now a.blanks a.p a.style a.down a.r a.n g.row.MIXING) a.s a.from) _ _ m _ e
           (ap (λ (k : ℕ). k * a.n) none),
     )
 
-pub bounds-cols-j : goal.bounds-cols-j
-bounds-cols-j c =
-    c.loop-j-test.true
-
-pub placed-requires : goal.placed-requires
-placed-requires c =
-    let q = c.requires.blanks_bound in (q.1, q.2)
-
 pub put-requires : goal.put-requires
-put-requires c =
-    let head = c.loop-j in
-    let reach = reaches _ _ _ _ _ _ (c.args.blanks + head.j) c.requires.n_in_bounds (omega arith) head.invariant.2 in
+put-requires g c =
+    let head = c.loop-column in
+    let reach = reaches _ _ _ _ _ _ (c.args.blanks + head.column-index) c.requires.n_in_bounds (omega arith) head.invariant.2 in
     let q = c.requires.blanks_bound in
-    (q.3, q.4, omega (arith, reach, head.invariant.1, c.edge-a.auto.mem), q.5, omega arith)
+    (q.1, q.2, omega (arith, reach, head.invariant.1, c.edge-a.auto.mem), q.3, omega arith)
 
 pub overflow_add-a : goal.overflow_add-a
-overflow_add-a c =
-    let head = c.loop-j in
-    omega (arith, reaches _ _ _ _ _ _ (c.args.blanks + head.j) c.requires.n_in_bounds (omega arith) head.invariant.2)
+overflow_add-a g c =
+    let head = c.loop-column in
+    omega (arith, reaches _ _ _ _ _ _ (c.args.blanks + head.column-index) c.requires.n_in_bounds (omega arith) head.invariant.2)
 
-pub loop-j-preserved : goal.loop-j-preserved
-loop-j-preserved c =
-    let head = c.loop-j in
+pub loop-column-preserved : goal.loop-column-preserved
+loop-column-preserved g c =
+    let head = c.loop-column in
     let a = c.args in (
       omega arith,
       omega (arith, c.put.auto.mem),
       omega (arith, head.invariant.2),
-      λ m e. row_glyph a.cols.now a.blanks a.p a.style a.down a.r a.n a.mixing a.s a.from (omega arith) m head.j head.a _ head.mem _
+      λ m e. row_glyph a.cols.now a.blanks a.p a.style a.down a.r a.n g.row.MIXING a.s a.from (omega arith) m head.column-index head.a _ head.mem _
           (omega arith) (head.invariant.3 m e) head.invariant.2
           (c.reversed.ensures
           ∙ ap (reversed_byte a.style) (c.tall_byte-v.ensures ∙ ap (tall_byte a.down a.r) c.placed.ensures))
@@ -72,27 +63,27 @@ loop-j-preserved c =
     )
 
 pub edge-requires : goal.edge-requires
-edge-requires c =
-    let head = c.loop-j in
+edge-requires g c =
+    let head = c.loop-column in
     let a = c.args in
-    let reach = columns_reach a.from a.s a.n (a.blanks + head.j) a.p.down (whole_of a.cols.now a.blanks a.p) _ (omega arith) c.requires.n_in_bounds in
+    let reach = columns_reach a.from a.s a.n (a.blanks + head.column-index) a.p.down (whole_of a.cols.now a.blanks a.p) _ (omega arith) c.requires.n_in_bounds in
     let same = c.edge-a.auto.mem in
     let q = c.requires.blanks_bound in
-    record { count_bound = (q.1, q.3, q.4, q.5, omega (arith, head.invariant.1, same)); n_in_bounds = omega (arith, reach, head.invariant.1, head.invariant.2, same) }
+    record { count_bound = (a.p.one, q.1, q.2, q.3, omega (arith, head.invariant.1, same)); n_in_bounds = omega (arith, reach, head.invariant.1, head.invariant.2, same) }
 
 pub shape_of-mem : goal.shape_of-mem
-shape_of-mem c =
-    c.edge.auto.mem ∙ c.loop-j.invariant.1 ∙ c.edge-a.auto.mem
+shape_of-mem g c =
+    c.edge.auto.mem ∙ c.loop-column.invariant.1 ∙ c.edge-a.auto.mem
 
 pub returns : goal.returns
-returns c =
-    let head = c.loop-j in
+returns g c =
+    let head = c.loop-column in
     let a = c.args in
     let blank = c.reversed-blank.ensures in
-    let all : a.blanks + head.j + a.p.down ≡ whole_of a.cols.now a.blanks a.p = omega arith in
-    turned_to_lem (byte_turn (row_stroke a.cols.now a.blanks a.p a.style a.down a.r a.n a.mixing) a.s a.from) _ _ a.mem.now _
-    (row_right a.cols.now a.blanks a.p a.style a.down a.r a.n a.mixing a.s a.from (omega arith) a.mem.now head.j a.p.down head.a _
+    let all : a.blanks + head.column-index + a.p.down ≡ whole_of a.cols.now a.blanks a.p = omega arith in
+    turned_to_lem (byte_turn (row_stroke a.cols.now a.blanks a.p a.style a.down a.r a.n g.row.MIXING) a.s a.from) _ _ a.mem.now _
+    (row_right a.cols.now a.blanks a.p a.style a.down a.r a.n g.row.MIXING a.s a.from (omega arith) a.mem.now head.column-index a.p.down head.a _
     head.mem _ (omega arith)
     (head.invariant.3 a.mem.now
-    (row_left a.cols.now a.blanks a.p a.style a.down a.r a.n a.mixing a.s a.from (omega arith) a.mem.now _ _ blank c.edge-a.ensures.0))
+    (row_left a.cols.now a.blanks a.p a.style a.down a.r a.n g.row.MIXING a.s a.from (omega arith) a.mem.now _ _ blank c.edge-a.ensures.0))
     head.invariant.2 blank c.edge.ensures.0) (ap (λ (k : ℕ). k * a.n) all)

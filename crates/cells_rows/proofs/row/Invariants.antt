@@ -8,12 +8,8 @@ use Rattle.laws_laid.specs.Laid.{laid}
 use Rattle.glyphs_columns.specs.Columns.{row_stroke}
 use Rattle.cells_rows.proofs.row.Given as goal
 
-abbrev pub invariant-loop-j : goal.invariant-loop-j
-invariant-loop-j l =
-    (l.j ≤ l.j-end) × (length l.mem ≡ length l.initial.mem) × (l.a ≡ l.from + l.s * ((l.blanks + l.j) * l.n))
-    × ((m : List ℕ) → l.initial.mem ≡ laid (row_stroke l.cols l.blanks l.p l.style l.down l.r l.n l.mixing) l.s l.from (l.blanks * l.n) m
-    → l.mem ≡ laid (row_stroke l.cols l.blanks l.p l.style l.down l.r l.n l.mixing) l.s l.from ((l.blanks + l.j) * l.n) m)
-
-abbrev pub decreases-loop-j : goal.decreases-loop-j
-decreases-loop-j l =
-    l.j-end - l.j
+abbrev pub invariant-loop-column : goal.invariant-loop-column
+invariant-loop-column g l =
+    (l.column-index ≤ length l.cols) × (length l.mem ≡ length l.initial.mem) × (l.a ≡ l.from + l.s * ((l.blanks + l.column-index) * l.n))
+    × ((m : List ℕ) → l.initial.mem ≡ laid (row_stroke l.cols l.blanks l.p l.style l.down l.r l.n g.row.MIXING) l.s l.from (l.blanks * l.n) m
+    → l.mem ≡ laid (row_stroke l.cols l.blanks l.p l.style l.down l.r l.n g.row.MIXING) l.s l.from ((l.blanks + l.column-index) * l.n) m)

@@ -1,0 +1,57 @@
+-- `cells_tall::whole` meets its contract. The loop's invariant: the glyph's columns so far are stored, and the next goes to address a.
+-- Assumes nothing.
+use mathlib.Core.Path.{ap, ◌∙◌}
+use mathlib.Core.Bool.{true}
+use native.Mathlib.Omega.{arith}
+use Rattle.cells_tall.specs.Both.{spread_of, reversed_both}
+use Rattle.cells_tall.proofs.Columns.{stored_none, stored_more, stored-all, reach_left, reach_glyph, reach_right}
+use Rattle.cells_tall.proofs.whole.Goals as goal
+
+pub edge-a-requires : goal.edge-a-requires
+edge-a-requires g c =
+    let a = c.args in
+    let q = c.requires.blanks_bound in
+    record { count_bound = (q.0, q.1, q.2, q.4, q.5); n_in_bounds = reach_left a.cols.now a.blanks a.p a.style true a.n a.s a.from _ q.5 c.requires.n_in_bounds }
+
+pub loop-column-init : goal.loop-column-init
+loop-column-init g c =
+    let a = c.args in
+    stored_none a.cols.now a.blanks a.p a.style _ a.n a.s a.from _ _ c.edge-a.ensures.1
+
+pub put_both-requires : goal.put_both-requires
+put_both-requires g c =
+    let head = c.loop-column in
+    let a = c.args in
+    let q = c.requires.blanks_bound in
+    let reach = reach_glyph a.cols.now a.blanks a.p a.style _ a.n a.s a.from _ q.5 c.requires.n_in_bounds head.column-index head.a _ head.mem head.invariant c.edge-a.auto.mem c.loop-column-test.true in
+    (q.1, q.2, reach.0, q.4, reach.1)
+
+pub overflow_add-a : goal.overflow_add-a
+overflow_add-a g c =
+    let head = c.loop-column in
+    let a = c.args in
+    omega (arith, reach_glyph a.cols.now a.blanks a.p a.style _ a.n a.s a.from _ c.requires.blanks_bound.5 c.requires.n_in_bounds head.column-index head.a _ head.mem head.invariant c.edge-a.auto.mem c.loop-column-test.true)
+
+pub loop-column-preserved : goal.loop-column-preserved
+loop-column-preserved g c =
+    let head = c.loop-column in
+    let a = c.args in
+    stored_more a.cols.now a.blanks a.p a.style _ a.n a.s a.from head.column-index head.a _ _ head.mem _ c.requires.blanks_bound.1 head.invariant c.loop-column-test.true c.put_both.auto.mem
+    (c.reversed_both.ensures
+    ∙ ap (reversed_both a.style) (c.spread-z.ensures ∙ ap spread_of c.placed.ensures))
+    c.put_both.ensures
+
+pub edge-requires : goal.edge-requires
+edge-requires g c =
+    let head = c.loop-column in
+    let a = c.args in
+    let q = c.requires.blanks_bound in
+    let reach = reach_right a.cols.now a.blanks a.p a.style _ a.n a.s a.from _ q.5 c.requires.n_in_bounds head.column-index head.a _ head.mem head.invariant c.edge-a.auto.mem in
+    record { count_bound = (a.p.one, q.1, q.2, q.4, reach.1); n_in_bounds = reach.0 }
+
+pub returns : goal.returns
+returns g c =
+    let head = c.loop-column in
+    let a = c.args in
+    stored-all a.cols.now a.blanks a.p a.style _ a.n a.s a.from head.column-index head.a _ a.mem.now _ head.mem _ c.requires.blanks_bound.1 c.requires.blanks_bound.3
+    c.reversed_both-blank.ensures c.edge-a.ensures.0 head.invariant c.loop-column-test.false c.edge.ensures.0
