@@ -11,67 +11,46 @@ ghost use Rattle.cells_cut.specs.Whole.{is_whole};
 use glyphs_columns::Lift;
 use paper::Style;
 
-// A whole cell that is not repeated downwards. The mixing is decided once for it: each row is called with the number written out, and so are
-// the commonest enlargements, so that the loop over columns asks for neither.
+// A whole cell that is not repeated downwards. The mixing is decided once for it: there is a row for each, and the commonest enlargements are
+// written out, so that the loop over columns asks for neither.
 fn flat(mem: &mut [u8], cols: &[u8], blanks: usize, p: Lift, style: Style, a: usize, s: usize)
-    requires blanks_bound { (blanks ≤ 1) × (p.down ≤ 1) × (p.up ≤ p.down) × (1 ≤ style.across) × (style.across ≤ 4) × (style.down ≡ 1) × (s ≤ 65536) }
+    requires blanks_bound { (blanks ≤ 1) × (1 ≤ style.across) × (style.across ≤ 4) × (style.down ≡ 1) × (s ≤ 65536) }
     requires mem_len_bound { (length mem.old ≤ 65536) × (a + s * (whole_of cols.now blanks p * style.across) < length mem.old + s) }
     ensures { mem.new ≡ piled (cell_stroke cols.now blanks p style) s a
         (whole_of cols.now blanks p * style.across) 1 mem.old }
 {
-    let mixing = style.mixing;
     let n = style.across;
-    if mixing == 0 {
-        if n == 4 {
-            cells_rows::row(mem, cols, blanks, p, style, 1, 0, a, s, 4, 0);
-            return;
-        }
-        cells_rows::row(mem, cols, blanks, p, style, 1, 0, a, s, n, 0);
-        return;
+    match style.mixing {
+        0 if n == 4 => cells_rows::row::<0>(mem, cols, blanks, p, style, 1, 0, a, s, 4),
+        0 => cells_rows::row::<0>(mem, cols, blanks, p, style, 1, 0, a, s, n),
+        1 => cells_rows::row::<1>(mem, cols, blanks, p, style, 1, 0, a, s, n),
+        2 => cells_rows::row::<2>(mem, cols, blanks, p, style, 1, 0, a, s, n),
+        _ if n == 2 => cells_rows::row::<3>(mem, cols, blanks, p, style, 1, 0, a, s, 2),
+        _ if n == 4 => cells_rows::row::<3>(mem, cols, blanks, p, style, 1, 0, a, s, 4),
+        _ => cells_rows::row::<3>(mem, cols, blanks, p, style, 1, 0, a, s, n),
     }
-    if mixing == 1 {
-        cells_rows::row(mem, cols, blanks, p, style, 1, 0, a, s, n, 1);
-        return;
-    }
-    if mixing == 2 {
-        cells_rows::row(mem, cols, blanks, p, style, 1, 0, a, s, n, 2);
-        return;
-    }
-    if n == 2 {
-        cells_rows::row(mem, cols, blanks, p, style, 1, 0, a, s, 2, 3);
-        return;
-    }
-    if n == 4 {
-        cells_rows::row(mem, cols, blanks, p, style, 1, 0, a, s, 4, 3);
-        return;
-    }
-    cells_rows::row(mem, cols, blanks, p, style, 1, 0, a, s, n, 3);
 }
 
 // A whole cell that is repeated downwards, its mixing decided once: replaced and by exclusive or both rows at a time.
 fn tall(mem: &mut [u8], cols: &[u8], blanks: usize, p: Lift, style: Style, a: usize, s: usize)
-    requires blanks_bound { (blanks ≤ 1) × (p.down ≤ 1) × (p.up ≤ p.down) × (1 ≤ style.across) × (style.across ≤ 4) × (style.down ≡ 2) × (2 ≤ s) }
+    requires blanks_bound { (blanks ≤ 1) × (1 ≤ style.across) × (style.across ≤ 4) × (style.down ≡ 2) × (2 ≤ s) }
     requires s_bound { (s ≤ 65536) × (length mem.old ≤ 65536) × (a + 1 + s * (whole_of cols.now blanks p * style.across) < length mem.old + s) }
     ensures { mem.new ≡ piled (cell_stroke cols.now blanks p style) s a
         (whole_of cols.now blanks p * style.across) 2 mem.old }
 {
-    let mixing = style.mixing;
     let n = style.across;
-    if mixing == 0 {
-        cells_tall::replace(mem, cols, blanks, p, style, a, s, n);
-        return;
+    match style.mixing {
+        0 => cells_tall::whole::<false>(mem, cols, blanks, p, style, a, s, n),
+        1 => {
+            cells_rows::row::<1>(mem, cols, blanks, p, style, 2, 0, a, s, n);
+            cells_rows::row::<1>(mem, cols, blanks, p, style, 2, 1, a + 1, s, n);
+        }
+        2 => {
+            cells_rows::row::<2>(mem, cols, blanks, p, style, 2, 0, a, s, n);
+            cells_rows::row::<2>(mem, cols, blanks, p, style, 2, 1, a + 1, s, n);
+        }
+        _ => cells_tall::whole::<true>(mem, cols, blanks, p, style, a, s, n),
     }
-    if mixing == 1 {
-        cells_rows::row(mem, cols, blanks, p, style, 2, 0, a, s, n, 1);
-        cells_rows::row(mem, cols, blanks, p, style, 2, 1, a + 1, s, n, 1);
-        return;
-    }
-    if mixing == 2 {
-        cells_rows::row(mem, cols, blanks, p, style, 2, 0, a, s, n, 2);
-        cells_rows::row(mem, cols, blanks, p, style, 2, 1, a + 1, s, n, 2);
-        return;
-    }
-    cells_tall::flip(mem, cols, blanks, p, style, a, s, n);
 }
 
 // A cell at address a, or the part of it that lies in a rectangle of so many columns and rows, the columns s apart. The caller knows whether it
@@ -88,8 +67,8 @@ pub fn draw(
     height: usize,
     whole: bool,
 )
-    requires down_bound { (p.down ≤ 1) × (p.up ≤ p.down) × (1 ≤ style.across) × (style.down ≤ 2) × (1 ≤ height) × (height ≤ style.down) × (height ≤ s) }
-    requires whole_value { whole ≡ is_whole (length cols.now) blanks p style width height }
+    requires down_bound { (1 ≤ style.across) × (style.down ≤ 2) × (1 ≤ height) × (height ≤ style.down) × (height ≤ s) }
+    requires whole_value { whole ≡ is_whole (length cols.now) blanks p.down style width height }
     requires s_bound { (s ≤ 65536) × (width ≤ 65536) × (length mem.old ≤ 65536) × (a + height + s * width ≤ length mem.old + s) }
     ensures { mem.new ≡ piled (cell_stroke cols.now blanks p style) s a width height mem.old }
 {

@@ -3,7 +3,7 @@
 // It may use the paper, the laws of the memory and the spans' growth, and it knows nothing of the glass, characters, windows or the state.
 #![tactic(auto)]
 
-ghost use Rattle.std.specs.Prelude.{◌≡◌, ◌≤◌, ◌<◌, min};
+ghost use Rattle.std.specs.Prelude.{◌≡◌, ◌≤◌, ◌<◌};
 ghost use Rattle.paper.specs.Panel.{memory_length, address};
 ghost use Rattle.paper.specs.Strokes.{rect_at, mark_rect};
 ghost use Rattle.paper.specs.Cells.{memory_rect};
@@ -38,13 +38,6 @@ pub fn clear(g: Module, mem: &mut [u8], r: Rect)
     for i in 0..r.height {
         clear_row(g, mem, r.left, r.top + i, r.width);
     }
-}
-
-// The smaller of two numbers.
-pub fn least(a: usize, b: usize) -> usize
-    ensures { result ≡ min a b }
-{
-    if a < b { a } else { b }
 }
 
 // Zeroes all of memory, and marks all of it.

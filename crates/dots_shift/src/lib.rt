@@ -13,7 +13,7 @@ pub fn scroll_up(g: Module, mem: &mut [u8], r: Rect, lines: usize)
     requires { Within g r × Fits g mem.old }
     ensures { mem.new ≡ scrolled_up g r lines mem.old }
 {
-    let gone = dots::least(lines, r.height);
+    let gone = lines.min(r.height);
     let kept = r.height - gone;
     let lowest = Rect {
         top: r.top + kept,
@@ -29,7 +29,7 @@ pub fn move_left(g: Module, mem: &mut [u8], r: Rect, n: usize)
     requires { Within g r × Fits g mem.old }
     ensures { mem.new ≡ moved_left g r n mem.old }
 {
-    let gone = dots::least(n, r.width);
+    let gone = n.min(r.width);
     let kept = r.width - gone;
     let last = Rect {
         left: r.left + kept,

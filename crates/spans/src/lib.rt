@@ -3,24 +3,10 @@
 // It may use the paper and the laws of the memory.
 #![tactic(auto)]
 
-ghost use Rattle.std.specs.Prelude.{◌≡◌, ◌+◌, ◌<◌, min, max};
+ghost use Rattle.std.specs.Prelude.{◌≡◌, ◌+◌, ◌<◌};
 ghost use Rattle.paper.specs.Strokes.{grown, grown_by, mark_rect};
 
 use paper::{Rect, Span, Spans};
-
-// The one of two columns that is further left.
-fn leftmost(a: u16, b: u16) -> u16
-    ensures { result ≡ min a b }
-{
-    if a < b { a } else { b }
-}
-
-// The one of two columns that is further right.
-fn rightmost(a: u16, b: u16) -> u16
-    ensures { result ≡ max a b }
-{
-    if a < b { b } else { a }
-}
 
 // The span that holds what p holds, and a column.
 fn including(p: Span, column: u16) -> Span
@@ -37,8 +23,8 @@ fn including(p: Span, column: u16) -> Span
         }
     } else {
         Span {
-            first: leftmost(from, column),
-            end: rightmost(to, after),
+            first: from.min(column),
+            end: to.max(after),
         }
     }
 }

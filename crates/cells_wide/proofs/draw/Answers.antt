@@ -10,32 +10,32 @@ use Rattle.cells_wide.proofs.draw.Goals as goal
 pub flat-requires : goal.flat-requires
 flat-requires c =
     let a = c.args in
-    let all = whole_facts (length a.cols.now) a.blanks a.p a.style a.width a.height (sym c.requires.whole_value ∙ c.if-whole.true) in
+    let all = whole_facts (length a.cols.now) a.blanks a.p.down a.style a.width a.height (sym c.requires.whole_value ∙ c.if-whole.true) in
     let reach = rw all.3 at c.requires.s_bound.3 in
     let q = c.requires.down_bound in
     let r = c.requires.s_bound in
-    record { blanks_bound = (all.0, q.0, q.1, q.2, all.1, omega (arith, all.2), r.0); mem_len_bound = (r.2, omega (arith, reach)) }
+    record { blanks_bound = (all.0, q.0, all.1, omega (arith, all.2), r.0); mem_len_bound = (r.2, omega (arith, reach)) }
 
 pub returns-then-height-eq1 : goal.returns-then-height-eq1
 returns-then-height-eq1 c =
     let a = c.args in
-    let all = whole_facts (length a.cols.now) a.blanks a.p a.style a.width a.height (sym c.requires.whole_value ∙ c.if-whole.true) in
+    let all = whole_facts (length a.cols.now) a.blanks a.p.down a.style a.width a.height (sym c.requires.whole_value ∙ c.if-whole.true) in
     as_high (cell_stroke a.cols.now a.blanks a.p a.style) a.s a.a _ a.width 1 a.height a.mem.now _ (sym all.3)
     (omega (arith, all.2)) c.flat.ensures
 
 pub tall-requires : goal.tall-requires
 tall-requires c =
     let a = c.args in
-    let all = whole_facts (length a.cols.now) a.blanks a.p a.style a.width a.height (sym c.requires.whole_value ∙ c.if-whole.true) in
+    let all = whole_facts (length a.cols.now) a.blanks a.p.down a.style a.width a.height (sym c.requires.whole_value ∙ c.if-whole.true) in
     let reach = rw all.3 at c.requires.s_bound.3 in
     let q = c.requires.down_bound in
     let r = c.requires.s_bound in
-    record { blanks_bound = (all.0, q.0, q.1, q.2, all.1, omega (arith, all.2), omega arith); s_bound = (r.0, r.2, omega (arith, reach)) }
+    record { blanks_bound = (all.0, q.0, all.1, omega (arith, all.2), omega arith); s_bound = (r.0, r.2, omega (arith, reach)) }
 
 pub returns-then-whole : goal.returns-then-whole
 returns-then-whole c =
     let a = c.args in
-    let all = whole_facts (length a.cols.now) a.blanks a.p a.style a.width a.height (sym c.requires.whole_value ∙ c.if-whole.true) in
+    let all = whole_facts (length a.cols.now) a.blanks a.p.down a.style a.width a.height (sym c.requires.whole_value ∙ c.if-whole.true) in
     as_high (cell_stroke a.cols.now a.blanks a.p a.style) a.s a.a _ a.width 2 a.height a.mem.now _ (sym all.3)
     (omega (arith, all.2)) c.tall.ensures
 
@@ -46,7 +46,7 @@ loop-r-init c =
 pub cut_row-requires : goal.cut_row-requires
 cut_row-requires c =
     let same = c.loop-r.invariant.1 in
-    record { down_bound = (omega arith, omega arith, omega arith, omega arith, omega (arith, same)); width_in_bounds = omega (arith, same) }
+    record { down_bound = (omega arith, omega arith, omega (arith, same)); width_in_bounds = omega (arith, same) }
 
 pub loop-r-preserved : goal.loop-r-preserved
 loop-r-preserved c =

@@ -9,7 +9,3 @@ use Rattle.cells_wide.proofs.draw.Given as goal
 abbrev pub invariant-loop-r : goal.invariant-loop-r
 invariant-loop-r l =
     (l.r ≤ l.height) × (length l.mem ≡ length l.initial.mem) × (l.mem ≡ piled (cell_stroke l.cols l.blanks l.p l.style) l.s l.a l.width l.r l.initial.mem)
-
-abbrev pub decreases-loop-r : goal.decreases-loop-r
-decreases-loop-r l =
-    l.height - l.r

@@ -11,7 +11,3 @@ use Rattle.dots.proofs.clear_row.Given as goal
 abbrev pub invariant-loop-j : goal.invariant-loop-j
 invariant-loop-j l =
     (l.j ≤ l.width) × (length l.mem ≡ length l.initial.mem) × (l.mem ≡ cleared l.g (rect_at l.left l.y l.j 1) l.initial.mem)
-
-abbrev pub decreases-loop-j : goal.decreases-loop-j
-decreases-loop-j l =
-    l.width - l.j

@@ -13,7 +13,3 @@ abbrev pub invariant-loop-i : goal.invariant-loop-i
 invariant-loop-i l =
     (l.i ≤ l.i-end) × (length l.mem ≡ length l.initial.mem)
     × (l.mem ≡ pulled l.g (rect_at l.r.left l.r.top l.r.width l.i) l.right l.down l.initial.mem)
-
-abbrev pub decreases-loop-i : goal.decreases-loop-i
-decreases-loop-i l =
-    l.i-end - l.i

@@ -13,7 +13,3 @@ use Rattle.dots_pull.proofs.pull_row.Given as goal
 abbrev pub invariant-loop-k : goal.invariant-loop-k
 invariant-loop-k l =
     (l.k ≤ l.k-end) × (l.k-end ≡ l.width / 2) × (length l.mem ≡ length l.initial.mem) × (l.mem ≡ pulled l.g (rect_at l.left l.y (2 * l.k) 1) l.right l.down l.initial.mem)
-
-abbrev pub decreases-loop-k : goal.decreases-loop-k
-decreases-loop-k l =
-    l.k-end - l.k

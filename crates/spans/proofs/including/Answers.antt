@@ -14,4 +14,4 @@ pub returns-else-to-eq0 : goal.returns-else-to-eq0
 unfolding grown
 returns-else-to-eq0 c =
     rw (ne_eqb _ _ c.if-to-eq0.false)
-    (ap₂ span_of c.leftmost.ensures c.rightmost.ensures)
+    (ap₂ span_of c.min.ensures c.max.ensures)
