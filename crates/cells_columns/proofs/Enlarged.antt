@@ -21,7 +21,7 @@ use Rattle.laws_memory.proofs.Rects.{rect_none, rect_same}
 use Rattle.laws_memory.proofs.Tests.{and_parts}
 use Rattle.laws_laid.specs.Laid.{piled}
 use Rattle.laws_laid.proofs.Laid.{piled_rect}
-use Rattle.glyphs_columns.specs.declared.Lift.{Lift}
+use Rattle.glyphs_columns.specs.declared.lift.Lift.{Lift}
 use Rattle.glyphs_columns.specs.Columns.{mixed_by, placing_of, cell_stroke}
 use Rattle.glyphs_columns.proofs.Frames.{placed_byte_lem}
 use Rattle.cells_columns.specs.DrawnAs.{drawn_as}

@@ -10,7 +10,7 @@ ghost use Rattle.glyphs_columns.specs.Columns.{plain_width};
 ghost use Rattle.cells_columns.specs.DrawnAs.{drawn_as};
 ghost use Rattle.cells_columns.specs.Mixed.{mixed_at, mixed_column, unlit, inlaid};
 
-use glyphs_columns::Tall;
+use glyphs_columns::{Lift, Tall};
 use paper::{Module, Rect, Style};
 
 // Mixes a byte into memory.
@@ -69,17 +69,10 @@ pub fn stamp_glyph(
     requires { Within g (rect_at left top count 1) × Fits g mem.old × (count ≤ length cols.now) }
     ensures { mem.new ≡ inlaid g framed cols.now style left top count mem.old }
 {
-    let p = glyphs_columns::placing(framed, top);
-    for j in 0..count {
-        let v = glyphs_columns::placed(p, cols[j]);
-        mix(
-            g,
-            mem,
-            style,
-            left + j,
-            top,
-            glyphs_columns::reversed(style, v),
-        );
+    let p = Lift::placing(framed, top);
+    for (j, &column) in cols[..count].iter().enumerate() {
+        let v = glyphs_columns::reversed(style, p.placed(column));
+        mix(g, mem, style, left + j, top, v);
     }
 }
 
@@ -122,13 +115,13 @@ pub fn walk_over(g: Module, mem: &mut [u8], framed: bool, cols: &[u8], w: u8, st
     }
     let top = r.top;
     let blanks = glyphs_columns::blanks_left(framed, w);
-    let lift = glyphs_columns::placing(framed, top);
+    let lift = Lift::placing(framed, top);
     let a = dots::at(g, r.left, top);
     let s = g.rows;
     let twice = (style.mixing == 0) & (style.across == 2) & (style.down == 1);
-    let whole = cells_cut::is_whole(cols.len(), blanks, lift, style, width, height);
+    let whole = cells_cut::is_whole(cols.len(), blanks, lift.down, style, width, height);
     if twice & whole {
-        cells_rows::row(mem, cols, blanks, lift, style, 1, 0, a, s, 2, 0);
+        cells_rows::row::<0>(mem, cols, blanks, lift, style, 1, 0, a, s, 2);
         return;
     }
     if height == 1 {

@@ -8,7 +8,3 @@ use Rattle.cells_columns.proofs.stamp_glyph.Given as goal
 abbrev pub invariant-loop-j : goal.invariant-loop-j
 invariant-loop-j l =
     (l.j ≤ l.count) × (length l.mem ≡ length l.initial.mem) × (l.mem ≡ inlaid l.g l.framed l.cols l.style l.left l.top l.j l.initial.mem)
-
-abbrev pub decreases-loop-j : goal.decreases-loop-j
-decreases-loop-j l =
-    l.count - l.j
