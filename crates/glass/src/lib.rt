@@ -3,7 +3,7 @@
 // It may use the paper, the laws of the memory, and dots for an address; it knows nothing of characters, windows or the state.
 #![tactic(auto)]
 
-ghost use Rattle.std.specs.Prelude.{◌≡◌, [], ◌∷◌, ℕ, ◌+◌, ◌≤◌, ◌<◌, length, get_or, set};
+ghost use Rattle.std.specs.Prelude.{◌≡◌, [], ◌∷◌, ◌-◌, ◌≤◌, ◌<◌, length, get_or, set};
 ghost use Rattle.paper.specs.Strokes.{shown, shown_all, refreshed};
 ghost use Rattle.laws_memory.specs.Glass.{Shows, copied, copied_from};
 
@@ -13,9 +13,8 @@ use paper::{Module, Span, Spans};
 pub fn shown_of(g: Module, p: Span) -> usize
     ensures { result ≡ shown g p }
 {
-    let first = p.first as usize;
-    let end = dots::least(p.end as usize, g.visible);
-    if first < end { end - first } else { 0 }
+    let end = usize::from(p.end).min(g.visible);
+    end.saturating_sub(usize::from(p.first))
 }
 
 // Copies one byte to the glass, whatever stands there. What is counted is what is copied: one byte.
@@ -42,16 +41,13 @@ pub fn copy_row(g: Module, mem: &[u8], glass: &mut [u8], y: usize, p: Span) -> u
     moved
 }
 
-// Copies so many bytes from an address on. The number of bytes copied.
-fn copy_bytes(mem: &[u8], glass: &mut [u8], from: usize, count: usize) -> usize
-    requires { (j : ℕ) → j < count → (from + j < length mem.now) × (from + j < length glass.old) }
-    ensures { (glass.new ≡ copied_from mem.now from count glass.old) × (result ≡ count) }
+// Copies the bytes from one address up to another. The number of bytes copied.
+fn copy_bytes(mem: &[u8], glass: &mut [u8], from: usize, end: usize) -> usize
+    requires { (from ≤ end) × (end ≤ length mem.now) × (end ≤ length glass.old) }
+    ensures { (glass.new ≡ copied_from mem.now from (end - from) glass.old) × (result ≡ end - from) }
 {
-    let mut moved = 0;
-    for j in 0..count {
-        moved += copy_byte(mem, glass, from + j);
-    }
-    moved
+    glass[from..end].copy_from_slice(&mem[from..end]);
+    end - from
 }
 
 // Copies a span's visible columns of both rows to the glass: their bytes stand side by side. The number of bytes copied.
@@ -60,8 +56,9 @@ fn copy_both(g: Module, mem: &[u8], glass: &mut [u8], p: Span) -> usize
     ensures { (glass.new ≡ refreshed g mem.now (p ∷ p ∷ []) glass.old)
         × (result ≡ shown_all g (p ∷ p ∷ [])) }
 {
-    let first = p.first as usize;
-    copy_bytes(mem, glass, 2 * first, 2 * shown_of(g, p))
+    let end = usize::from(p.end).min(g.visible);
+    let first = usize::from(p.first).min(end);
+    copy_bytes(mem, glass, 2 * first, 2 * end)
 }
 
 // Copies each span's visible columns to the glass, row by row. The number of bytes copied.
@@ -71,8 +68,8 @@ fn copy_rows(g: Module, mem: &[u8], glass: &mut [u8], spans: Spans) -> usize
         × (result ≡ shown_all g spans) }
 {
     let mut moved = 0;
-    for y in 0..2 {
-        moved += copy_row(g, mem, glass, y, spans[y]);
+    for (y, &p) in spans.iter().enumerate() {
+        moved += copy_row(g, mem, glass, y, p);
     }
     moved
 }
@@ -85,7 +82,7 @@ pub fn refresh(g: Module, mem: &[u8], glass: &mut [u8], spans: Spans) -> usize
 {
     let top = spans[0];
     let bottom = spans[1];
-    if (g.rows == 2) & ((top.first == bottom.first) & (top.end == bottom.end)) {
+    if (g.rows == 2) & (top == bottom) {
         return copy_both(g, mem, glass, top);
     }
     copy_rows(g, mem, glass, spans)

@@ -1,38 +1,18 @@
--- `glass::copy_bytes` meets its contract. The loop's invariant: the first j bytes are copied, and counted. Assumes nothing.
-use mathlib.Core.Path.{◌≡◌, refl, ap₂, ◌∙◌}
-use mathlib.Core.List.{List}
-use Prim.Native.Nat.{ℕ, ◌≤◌, ◌-◌}
+-- `glass::copy_bytes` meets its contract: what is copied is a run of memory's bytes. Assumes nothing.
+use mathlib.Core.Path.{◌≡◌, refl, ◌∙◌}
 use native.Mathlib.Omega.{arith}
-use lib.ListN.{length}
-use Rattle.laws_memory.specs.Glass.{copied_from}
-use Rattle.laws_memory.proofs.Glass.{bytes_none, bytes-turn}
+use Rattle.std.proofs.lemmas.Grind.{common_steps}
+use borrow.Rule.Slice.PartMut.{put_mid}
+use mathlib.Core.List.{◌++◌}
+use Prim.Native.Nat.{◌-◌}
+use lib.ListN.{take, drop}
+use Rattle.glass.proofs.Runs.{run_copied}
 use Rattle.glass.proofs.copy_bytes.Goals as goal
-
-pub loop-j-init : goal.loop-j-init
-loop-j-init c =
-    (omega arith, refl, refl, bytes_none _ _ _)
-
-pub overflow_add-from : goal.overflow_add-from
-overflow_add-from c =
-    omega (arith, c.requires c.loop-j.j (omega arith))
-
-pub copy_byte-moved-requires : goal.copy_byte-moved-requires
-copy_byte-moved-requires c =
-    omega (arith, c.requires c.loop-j.j (omega arith))
-
-pub loop-j-preserved : goal.loop-j-preserved
-loop-j-preserved c =
-    let head = c.loop-j in
-    let copying = c.copy_byte-moved in
-    let here = c.requires head.j (omega arith) in (
-      omega arith,
-      omega (arith, copying.ensures.1),
-      omega (arith, copying.auto.glass),
-      bytes-turn _ _ _ _ _ _ here.1 head.invariant.3 copying.ensures.0,
-    )
 
 pub returns : goal.returns
 returns c =
-    let head = c.loop-j in
-    let whole : head.j ≡ c.args.count = omega arith in
-    (rw whole at head.invariant.3, omega arith)
+    let a = c.args in
+    let q = c.requires in
+    let whole : put_mid a.from (a.end - a.from) a.glass.now c.copy_from_slice.new.self
+        ≡ take a.from a.glass.now ++ (take (a.end - a.from) (drop a.from a.mem.now) ++ drop a.end a.glass.now) = grind (arith, common_steps) in
+    (whole ∙ run_copied a.mem.now a.glass.now a.from a.end q.0 q.1 q.2, refl)

@@ -17,7 +17,3 @@ abbrev pub invariant-loop-j : goal.invariant-loop-j
 invariant-loop-j l =
     (l.j ≤ l.width) × (l.moved ≡ l.j) × (length l.glass ≡ length l.initial.glass)
     × (l.glass ≡ rect_map l.g (rect_at l.first l.y l.j 1) (λ i r b. get_or l.mem (address l.g (l.first + i) (l.y + r)) 0) l.initial.glass)
-
-abbrev pub decreases-loop-j : goal.decreases-loop-j
-decreases-loop-j l =
-    l.width - l.j

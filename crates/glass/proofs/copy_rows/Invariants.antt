@@ -12,9 +12,5 @@ use Rattle.glass.proofs.copy_rows.Given as goal
 
 abbrev pub invariant-loop-y : goal.invariant-loop-y
 invariant-loop-y l =
-    (l.y ≤ 2) × (length l.spans ≡ 2) × (length l.glass ≡ length l.initial.glass) × (l.glass ≡ refreshed l.g l.mem (take l.y l.spans) l.initial.glass)
-    × (l.moved ≡ shown_all l.g (take l.y l.spans)) × (l.moved ≤ l.y * 65536)
-
-abbrev pub decreases-loop-y : goal.decreases-loop-y
-decreases-loop-y l =
-    2 - l.y
+    (l.y ≤ 2) × (length l.p-items ≡ 2) × (length l.glass ≡ length l.initial.glass) × (l.glass ≡ refreshed l.g l.mem (take l.y l.p-items) l.initial.glass)
+    × (l.moved ≡ shown_all l.g (take l.y l.p-items)) × (l.moved ≤ l.y * 65536)

@@ -1,0 +1,2 @@
+-- A law that belongs to no one function: of a run of bytes written over a list.
+mod Runs
