@@ -1,5 +1,5 @@
 // Marks of images: the rows that a run of an image's bytes has written, each marked once.
-// It may use dots and spans for what is marked, and moves for the spot. It writes no memory, and knows no piece of bytes.
+// It may use spans for what is marked, and moves for the spot. It writes no memory, and knows no piece of bytes.
 #![tactic(auto)]
 
 ghost use Rattle.std.specs.Prelude.{◌≡◌, ◌+◌, ◌≤◌, ◌<◌};
@@ -14,10 +14,10 @@ fn mark_row(spans: Spans, v: View, bottom: usize, row: usize, from: usize, to: u
     requires row_bound { (row < 2) × (from ≤ to) × (to < 131072) }
     ensures { result ≡ row_mark v bottom row from to spans }
 {
-    let left = dots::least(v.x + from, v.width);
-    let right = dots::least(v.x + to, v.width);
-    let top = dots::least(v.y + row, bottom);
-    let end = dots::least(v.y + row + 1, bottom);
+    let left = (v.x + from).min(v.width);
+    let right = (v.x + to).min(v.width);
+    let top = (v.y + row).min(bottom);
+    let end = (v.y + row + 1).min(bottom);
     spans::mark(
         spans,
         Rect {
@@ -46,7 +46,7 @@ pub fn filled_to(p: Spot, height: u16, column: u16, row: u16, x: u16, y: u16, at
     ensures { result ≡ filled_to p height column row x y at }
 {
     let v = p.view;
-    let bottom = dots::least(v.height, v.y + (height as usize));
+    let bottom = v.height.min(v.y + (height as usize));
     let before = p.spans;
     let first = (column as usize) + (row as usize);
     let end = (x as usize) + (y as usize);

@@ -1,5 +1,5 @@
 // HT's way in MD3's last cell: the cursor's rows are pushed left.
-// It may use moves for what the moves share, dots and dots_shift; it knows nothing of characters, windows, settings or how bytes are read.
+// It may use moves for what the moves share, and dots_shift; it knows nothing of characters, windows, settings or how bytes are read.
 // Its contract says that what was done is what the paper's move of the same name means.
 #![tactic(auto)]
 
@@ -23,7 +23,7 @@ pub fn push_left(g: Module, mem: &mut [u8], p: Spot, c: usize, l: usize) -> Spot
     let width = v.width;
     let rows = Rect {
         top: v.top + y,
-        height: dots::least(l, v.height - y),
+        height: l.min(v.height - y),
         ..moves::range(v)
     };
     dots_shift::move_left(g, mem, rows, x + 2 * c - width);

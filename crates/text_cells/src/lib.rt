@@ -1,5 +1,5 @@
 // Cells of text: what of a cell at the cursor lies in the range, and the cell of a code that may be a download.
-// It may use dots, glyphs, cells and cells_any; it moves no cursor and marks nothing.
+// It may use glyphs, cells and cells_any; it moves no cursor and marks nothing.
 // The downloads lent to it are those in force: none where the switch is off.
 #![tactic(auto)]
 
@@ -26,8 +26,8 @@ pub fn inside(v: View, c: usize, l: usize) -> Rect
     Rect {
         left: left + x,
         top: top + y,
-        width: dots::least(c, width - x),
-        height: dots::least(l, height - y),
+        width: c.min(width - x),
+        height: l.min(height - y),
     }
 }
 

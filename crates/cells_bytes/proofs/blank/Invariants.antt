@@ -9,7 +9,3 @@ use Rattle.cells_bytes.proofs.blank.Given as goal
 abbrev pub invariant-loop-j : goal.invariant-loop-j
 invariant-loop-j l =
     (l.j ≤ l.j-end) × (length l.mem ≡ length l.initial.mem) × (l.mem ≡ rect_map l.g (rect_at l.r.left l.r.top l.j l.r.height) (inked l.style (λ j r. 0)) l.initial.mem)
-
-abbrev pub decreases-loop-j : goal.decreases-loop-j
-decreases-loop-j l =
-    l.j-end - l.j

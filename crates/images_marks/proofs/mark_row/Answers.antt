@@ -5,4 +5,4 @@ use Rattle.images_marks.proofs.mark_row.Goals as goal
 pub returns : goal.returns
 unfolding row_mark
 returns c =
-    rw (c.mark.ensures, c.least-end.ensures, c.least-top.ensures, c.least-right.ensures, c.least-left.ensures)
+    rw (c.mark.ensures, c.min-end.ensures, c.min-top.ensures, c.min-right.ensures, c.min-left.ensures)

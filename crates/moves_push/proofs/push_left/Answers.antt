@@ -17,5 +17,5 @@ pub returns : goal.returns
 unfolding push_left moved_left
 returns c =
     let ranged = c.range.ensures in
-    let some = c.least.ensures in
+    let some = c.min.ensures in
     does_stroke _ _ (rw (c.marked.ensures, ranged, some) at c.place.ensures) (rw (ranged, some) at c.move_left.ensures)

@@ -3,4 +3,4 @@ use Rattle.text_cells.proofs.inside.Goals as goal
 
 pub returns : goal.returns
 returns c =
-    rw (c.least.ensures, c.least-2.ensures)
+    rw (c.min.ensures, c.min-2.ensures)
