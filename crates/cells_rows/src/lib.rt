@@ -11,7 +11,8 @@ use glyphs_columns::Lift;
 use paper::Style;
 
 // A column's byte stored in n columns, which lie s apart from address a on. Written out for speed: as a loop digits 4 by 1 take 301
-// instructions a byte for 268. (cells_tall::put_both is the same over two bytes: one for both takes a trait with a store and its laws, no plainer.)
+// instructions a byte for 268. (cells_tall has `put_both` and `edge` over two bytes at once: one for both takes a trait with a store and its laws,
+// no plainer.)
 fn put<const MIXING: u8>(mem: &mut [u8], a: usize, s: usize, n: u8, v: u8)
     requires { (1 ≤ n) × (n ≤ 4) × (a + s * n < length mem.old + s) × (s ≤ 65536) × (length mem.old ≤ 65536) }
     ensures { mem.new ≡ laid (λ j b. mixed_by MIXING v b) s a n mem.old }
@@ -35,7 +36,14 @@ fn put<const MIXING: u8>(mem: &mut [u8], a: usize, s: usize, n: u8, v: u8)
 }
 
 // A blank column so stored, if there is one; gives the address after it.
-fn edge<const MIXING: u8>(mem: &mut [u8], a: usize, s: usize, n: u8, blank: u8, count: usize) -> usize
+fn edge<const MIXING: u8>(
+    mem: &mut [u8],
+    a: usize,
+    s: usize,
+    n: u8,
+    blank: u8,
+    count: usize,
+) -> usize
     requires count_bound { (count ≤ 1) × (1 ≤ n) × (n ≤ 4) × (s ≤ 65536) × (length mem.old ≤ 65536) }
     requires n_in_bounds { a + s * (count * n) < length mem.old + s }
     ensures { (mem.new ≡ laid (λ j b. mixed_by MIXING blank b) s a (count * n) mem.old) × (result ≡ a + s * (count * n)) }

@@ -40,7 +40,7 @@ pub fn clear(g: Module, mem: &mut [u8], r: Rect)
     }
 }
 
-// Zeroes all of memory, and marks all of it.
+// Zeroes all of memory, and marks all of it. (No `fill`: `clear` says it in the word of the contract, and is no longer.)
 pub fn erase(g: Module, mem: &mut [u8], spans: Spans) -> Spans
     requires { Fits g mem.old × ((g.columns < 65536) × (g.rows < 65536)) }
     ensures { (mem.new ≡ cleared g (memory_rect g) mem.old) × (result ≡ mark_rect (memory_rect g) spans) }

@@ -22,8 +22,8 @@ fn pull_one(g: Module, mem: &mut [u8], x: usize, y: usize, right: usize, down: u
     mem[to] = v;
 }
 
-// Each column of one row does so, two in a turn of the loop. It goes from the left, so that no byte is taken after
-// another was stored over it.
+// Each column of one row does so, two in a turn of the loop for speed: with one, line feeds that scroll take 1.06 of the second program's time
+// for 0.96. It goes from the left, so that no byte is taken after another was stored over it.
 fn pull_row(
     g: Module,
     mem: &mut [u8],

@@ -26,7 +26,7 @@ fn copy_byte(mem: &[u8], glass: &mut [u8], a: usize) -> usize
     1
 }
 
-// Copies a span's visible columns of row y to the glass. The number of bytes copied.
+// Copies a span's visible columns of row y to the glass: its bytes stand apart, so that no slice holds them alone. The number of bytes copied.
 pub fn copy_row(g: Module, mem: &[u8], glass: &mut [u8], y: usize, p: Span) -> usize
     requires { (y < g.rows) × Shows g mem.now glass.old }
     ensures { (glass.new ≡ copied g mem.now y p glass.old) × (result ≡ shown g p) }

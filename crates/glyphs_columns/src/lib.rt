@@ -34,7 +34,7 @@ pub fn blank_right(framed: bool) -> usize
     usize::from(framed)
 }
 
-// Column k of a cell: after the blank columns the glyph's, then blank.
+// Column k of a cell: after the blank columns the glyph's, then blank. (No `get`: the edit cell_reads_past_the_glyph needs the second test.)
 pub fn fetched(cols: &[u8], blanks: usize, k: usize) -> u8
     ensures { result ≡ fetched_of cols.now blanks k }
 {

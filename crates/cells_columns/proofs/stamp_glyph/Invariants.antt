@@ -1,6 +1,6 @@
 -- `cells_columns::stamp_glyph` meets its contract. The loop's invariant: the first j columns are mixed in. Assumes nothing.
 use mathlib.Core.Path.{◌≡◌}
-use Prim.Native.Nat.{◌-◌, ◌≤◌}
+use Prim.Native.Nat.{◌≤◌}
 use lib.ListN.{length}
 use Rattle.cells_columns.specs.Mixed.{inlaid}
 use Rattle.cells_columns.proofs.stamp_glyph.Given as goal

@@ -2,7 +2,7 @@
 -- left, and the next goes to address a. Assumes nothing.
 use mathlib.Core.Path.{◌≡◌}
 use mathlib.Core.List.{List}
-use Prim.Native.Nat.{ℕ, ◌+◌, ◌*◌, ◌-◌, ◌≤◌}
+use Prim.Native.Nat.{ℕ, ◌+◌, ◌*◌, ◌≤◌}
 use lib.ListN.{length}
 use Rattle.laws_laid.specs.Laid.{laid}
 use Rattle.glyphs_columns.specs.Columns.{row_stroke}

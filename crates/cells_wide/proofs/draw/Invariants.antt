@@ -1,6 +1,6 @@
 -- `cells_wide::draw` meets its contract. The loop's invariant: the first r rows are drawn. Assumes nothing.
 use mathlib.Core.Path.{◌≡◌}
-use Prim.Native.Nat.{◌-◌, ◌≤◌}
+use Prim.Native.Nat.{◌≤◌}
 use lib.ListN.{length}
 use Rattle.laws_laid.specs.Laid.{piled}
 use Rattle.glyphs_columns.specs.Columns.{cell_stroke}

@@ -1,5 +1,5 @@
 -- `glass::copy_both` meets its contract. Assumes nothing.
-use mathlib.Core.Path.{◌≡◌, ◌∙◌}
+use mathlib.Core.Path.{◌∙◌}
 use native.Mathlib.Omega.{arith}
 use Rattle.paper.specs.Strokes.{shown}
 use Rattle.laws_memory.proofs.Glass.{refreshed_both}

@@ -14,5 +14,5 @@ returns c =
     let a = c.args in
     let q = c.requires in
     let whole : put_mid a.from (a.end - a.from) a.glass.now c.copy_from_slice.new.self
-        ≡ take a.from a.glass.now ++ (take (a.end - a.from) (drop a.from a.mem.now) ++ drop a.end a.glass.now) = grind (arith, common_steps) in
+    ≡ take a.from a.glass.now ++ (take (a.end - a.from) (drop a.from a.mem.now) ++ drop a.end a.glass.now) = grind (arith, common_steps) in
     (whole ∙ run_copied a.mem.now a.glass.now a.from a.end q.0 q.1 q.2, refl)

@@ -1,14 +1,13 @@
 -- `glass::copy_row` meets its contract. The loop's invariant: the first j columns are copied, and counted.
 -- Assumes nothing.
-use mathlib.Core.Path.{◌≡◌, refl, ap, ◌∙◌}
-use Prim.Native.Nat.{ℕ, ◌≤◌, ◌<◌, ◌+◌, ◌-◌}
-use borrow.Author.Rules.{rules}
+use mathlib.Core.Path.{refl, ap, ◌∙◌}
+use Prim.Native.Nat.{ℕ, ◌<◌, ◌+◌}
 use native.Mathlib.Omega.{arith}
-use lib.ListN.{length, get_or}
+use lib.ListN.{get_or}
 use Rattle.paper.specs.Panel.{address, glass_length}
 use Rattle.paper.specs.declared.Module.{Module}
 use Rattle.paper.specs.declared.Span.{Span}
-use Rattle.paper.specs.Strokes.{rect_at, rect_map, shown}
+use Rattle.paper.specs.Strokes.{shown}
 use Rattle.laws_memory.specs.Glass.{copied}
 use Rattle.laws_memory.proofs.Addresses.{address-lt}
 use Rattle.laws_memory.proofs.Rects.{rect_none, row_turn, row_end}

@@ -1,12 +1,12 @@
 -- `glass::copy_rows` meets its contract. The loop's invariant: the glass and the count are those of the first y spans.
 -- Assumes nothing.
-use mathlib.Core.Path.{◌≡◌, refl}
-use Prim.Native.Nat.{◌≤◌, ◌-◌, ◌*◌}
+use mathlib.Core.Path.{refl}
+use Prim.Native.Nat.{◌≤◌}
 use borrow.Author.Rules.{rules}
 use native.Mathlib.Omega.{arith}
-use lib.ListN.{length, get_or, take}
+use lib.ListN.{get_or}
 use lib.Seq.{take_all}
-use Rattle.paper.specs.Strokes.{no_span, refreshed, shown_all}
+use Rattle.paper.specs.Strokes.{no_span}
 use Rattle.laws_memory.proofs.Glass.{refreshed_none, refreshed-turn, shown-turn, shown-le, visible_small}
 use Rattle.glass.proofs.copy_rows.Goals as goal
 

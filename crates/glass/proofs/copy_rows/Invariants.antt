@@ -1,13 +1,9 @@
 -- `glass::copy_rows` meets its contract. The loop's invariant: the glass and the count are those of the first y spans.
 -- Assumes nothing.
-use mathlib.Core.Path.{◌≡◌, refl}
-use Prim.Native.Nat.{◌≤◌, ◌-◌, ◌*◌}
-use borrow.Author.Rules.{rules}
-use native.Mathlib.Omega.{arith}
-use lib.ListN.{length, get_or, take}
-use lib.Seq.{take_all}
-use Rattle.paper.specs.Strokes.{no_span, refreshed, shown_all}
-use Rattle.laws_memory.proofs.Glass.{refreshed_none, refreshed-turn, shown-turn, shown-le, visible_small}
+use mathlib.Core.Path.{◌≡◌}
+use Prim.Native.Nat.{◌≤◌, ◌*◌}
+use lib.ListN.{length, take}
+use Rattle.paper.specs.Strokes.{refreshed, shown_all}
 use Rattle.glass.proofs.copy_rows.Given as goal
 
 abbrev pub invariant-loop-y : goal.invariant-loop-y
