@@ -12,6 +12,8 @@ use record_bytes::STATE;
 // The answer to a record of another length: no number of document 01.
 pub const WRONG_LENGTH: u32 = 100;
 
+// The answers are C's: numbers and no Result, and each field is there whatever the answer.
+
 // What a feed answers: its number, what the last byte came to, commands carried out, commands answered 11 to 19.
 #[repr(C)]
 #[derive(Clone, Copy)]
@@ -41,6 +43,7 @@ pub struct PanelReceived {
 }
 
 // Writes the state that a call gave into a record, if its answer is 0, and leaves the downloads in it; a refused call leaves all of it.
+#[tactic(auto, using(crate::proofs::Parts::state_long), unfolding(crate::specs::Face::record_after))]
 pub fn keep(answer: u32, s: State, to: &mut [u8])
     requires { length to.old ≡ record_length }
     ensures { to.new ≡ state_after answer s to.old }
@@ -51,6 +54,8 @@ pub fn keep(answer: u32, s: State, to: &mut [u8])
 }
 
 // Writes the spans that a refresh gave, if its answer is 0: a refresh changes nothing else in the state.
+// Not one function with `keep` that takes the writer: that is no shorter than these two lines, and its contract had to name each writer.
+#[tactic(auto, using(crate::proofs::Parts::state_long), unfolding(crate::specs::Face::spans_after))]
 pub fn keep_spans(answer: u32, spans: Spans, to: &mut [u8])
     requires { length to.old ≡ record_length }
     ensures { to.new ≡ spans_after answer spans to.old }

@@ -22,13 +22,10 @@ pub fn refresh(g: Module, state: &mut [u8], mem: &[u8], glass: &mut [u8]) -> Pan
             moved: 0,
         };
     }
-    let s = record_read::state_of(&state[..STATE]);
+    let s = record_read::state_of(state.first_chunk().unwrap());
     let r = calls_glass::refresh(g, &state[STATE..], mem, glass, s);
-    let emptied = r.state;
-    let spans = emptied.spans;
-    let refusal = r.refusal;
-    let answer = numbers::refusal_number(refusal);
-    face::keep_spans(answer, spans, state);
+    let answer = numbers::refusal_number(r.refusal);
+    face::keep_spans(answer, r.state.spans, state);
     PanelRefreshed {
         answer,
         moved: r.moved,

@@ -4,12 +4,23 @@
 // Each contract is one line: what a call answers and leaves is the definition of that call in face's specs/Face.antt.
 #![tactic(auto)]
 
-ghost use Rattle.std.specs.Prelude.{◌≡◌};
-ghost use Rattle.face.specs.Face.{calling, hold_c, release_c};
+ghost use Rattle.std.specs.Prelude.{◌≡◌, length};
+ghost use Rattle.record_bytes.specs.Bytes.{record_length};
+ghost use Rattle.face.specs.Face.{calling, calling_c, hold_c, release_c};
 
 use face::WRONG_LENGTH;
-use paper::Module;
+use paper::{Answer, Module};
 use record_bytes::{RECORD, STATE};
+
+// Writes the state that a call gave into its record, and gives the answer's number.
+fn told(a: Answer, state: &mut [u8]) -> u32
+    requires { length state.old ≡ record_length }
+    ensures { calling result state.new ≡ calling_c state.old a }
+{
+    let answer = numbers::refusal_number(a.refusal);
+    face::keep(answer, a.state, state);
+    answer
+}
 
 // Holds a window. 100: the record is not 259 bytes; then 8, 6, 4, 5.
 pub fn hold(g: Module, state: &mut [u8], window: usize) -> u32
@@ -18,13 +29,9 @@ pub fn hold(g: Module, state: &mut [u8], window: usize) -> u32
     if state.len() != RECORD {
         return WRONG_LENGTH;
     }
-    let s = record_read::state_of(&state[..STATE]);
-    let a = calls_hold::hold(g, &state[STATE..], s, window);
-    let held = a.state;
-    let refusal = a.refusal;
-    let answer = numbers::refusal_number(refusal);
-    face::keep(answer, held, state);
-    answer
+    let s = record_read::state_of(state.first_chunk().unwrap());
+    let held = calls_hold::hold(g, &state[STATE..], s, window);
+    told(held, state)
 }
 
 // Releases the held window. 100: the record is not 259 bytes; then 8, 7.
@@ -34,11 +41,7 @@ pub fn release(g: Module, state: &mut [u8]) -> u32
     if state.len() != RECORD {
         return WRONG_LENGTH;
     }
-    let s = record_read::state_of(&state[..STATE]);
-    let a = calls_hold::release(g, &state[STATE..], s);
-    let released = a.state;
-    let refusal = a.refusal;
-    let answer = numbers::refusal_number(refusal);
-    face::keep(answer, released, state);
-    answer
+    let s = record_read::state_of(state.first_chunk().unwrap());
+    let released = calls_hold::release(g, &state[STATE..], s);
+    told(released, state)
 }

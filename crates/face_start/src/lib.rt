@@ -20,8 +20,6 @@ pub fn start(g: Module, state: &mut [u8], mem: &mut [u8]) -> u32
         return WRONG_LENGTH;
     }
     let a = calls_start::start(g, mem, &mut state[STATE..]);
-    let s = a.state;
-    let refusal = a.refusal;
-    record_write::encode(s, &mut state[..STATE]);
-    numbers::refusal_number(refusal)
+    record_write::encode(a.state, &mut state[..STATE]);
+    numbers::refusal_number(a.refusal)
 }

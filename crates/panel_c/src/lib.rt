@@ -32,16 +32,13 @@ pub fn panel_feed(state: &mut [u8], mem: &mut [u8], font: &[u8], piece: &[u8]) -
             answered: 0,
         };
     }
-    let s = record_read::state_of(&state[..STATE]);
+    let s = record_read::state_of(state.first_chunk().unwrap());
     let f = calls_feed::feed(modules::small(), mem, &mut state[STATE..], font, piece, s);
-    let fed = f.state;
-    let refusal = f.refusal;
-    let outcome = f.outcome;
-    let answer = numbers::refusal_number(refusal);
-    face::keep(answer, fed, state);
+    let answer = numbers::refusal_number(f.refusal);
+    face::keep(answer, f.state, state);
     PanelFed {
         answer,
-        outcome: numbers::outcome_number(outcome),
+        outcome: numbers::outcome_number(f.outcome),
         carried: f.carried,
         answered: f.answered,
     }

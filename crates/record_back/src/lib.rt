@@ -1,5 +1,6 @@
 // The record's half-read part, read back: what is half read, from its case's number and its parameters.
 // It uses the paper, and record_half for the slots; docs/RECORD.md has the numbers.
+// Functions and no `From`: the types are the paper's and record_half's, and this crate's must-fail edits name it.
 #![tactic(auto)]
 
 ghost use Rattle.std.specs.Prelude.{◌≡◌};
@@ -9,6 +10,7 @@ use paper::{Batch, Half, Key, Word};
 use record_half::Slots;
 
 // The setting of a number; what numbers none is taken for the first, whose number is another.
+#[tactic(auto, unfolding(record_half::specs::Slots::key_of))]
 fn key_of(n: u8) -> Key
     ensures { result ≡ key_of n }
 {
@@ -27,6 +29,7 @@ fn key_of(n: u8) -> Key
 }
 
 // The awaited 16-bit parameter that slots say.
+#[tactic(auto, unfolding(record_half::specs::Slots::word_of))]
 fn word_of(n: u8, a: u8, p: u16, q: u16, r: u16) -> Word
     ensures { result ≡ word_of n a p q r }
 {
@@ -48,19 +51,22 @@ fn word_of(n: u8, a: u8, p: u16, q: u16, r: u16) -> Word
 }
 
 // What is half read, from its slots; what numbers no case is taken for nothing, whose number is another.
+#[tactic(auto, unfolding(record_half::specs::Slots::half_of))]
 pub fn half_of(t: Slots) -> Half
     ensures { result ≡ half_of t }
 {
-    let case = t.case;
-    let a = t.a;
-    let b = t.b;
-    let c = t.c;
-    let d = t.d;
-    let p = t.p;
-    let q = t.q;
-    let r = t.r;
-    let s = t.s;
-    let columns = t.columns;
+    let Slots {
+        case,
+        a,
+        b,
+        c,
+        d,
+        p,
+        q,
+        r,
+        s,
+        columns,
+    } = t;
     // a define's codes, and its note of a drop: a byte other than 1 is taken for none, whose number is another
     let batch = Batch {
         first: a,

@@ -4,9 +4,9 @@
 
 ghost use Rattle.std.specs.Prelude.{◌≡◌};
 ghost use Rattle.record_half.specs.Slots.{half_slots};
-ghost use Rattle.record_bytes.specs.Bytes.{settings_bytes, window_bytes, base_bytes, hold_bytes, slot_bytes, spans_bytes};
+ghost use Rattle.record_bytes.specs.Bytes.{settings_bytes, cursor_bytes, window_bytes, base_bytes, hold_bytes, slot_bytes, span_bytes, spans_bytes};
 
-use paper::{Cursor, Half, Hold, Settings, Spans, Window};
+use paper::{Cursor, Half, Hold, Settings, Span, Spans, Window};
 use record_half::Slots;
 
 // ---- the layout, as specs/Bytes has it
@@ -58,7 +58,7 @@ pub const STORE: usize = 144;
 
 pub const RECORD: usize = STATE + STORE;
 
-// ---- the bytes
+// ---- the bytes: a 16-bit number is two, low byte first
 
 // The settings.
 pub fn settings_bytes(v: Settings) -> [u8; SETTINGS]
@@ -81,25 +81,38 @@ pub fn settings_bytes(v: Settings) -> [u8; SETTINGS]
     ]
 }
 
+// A cursor and its mode.
+fn cursor_bytes(k: Cursor) -> [u8; CURSOR]
+    ensures { result ≡ cursor_bytes k }
+{
+    let [x, x_high] = k.x.to_le_bytes();
+    let [y, y_high] = k.y.to_le_bytes();
+    [x, x_high, y, y_high, k.mode]
+}
+
 // A user window.
 pub fn window_bytes(w: Window) -> [u8; WINDOW]
     ensures { result ≡ window_bytes w }
 {
-    let k = w.cursor;
+    let [left, left_high] = w.left.to_le_bytes();
+    let [top, top_high] = w.top.to_le_bytes();
+    let [width, width_high] = w.width.to_le_bytes();
+    let [height, height_high] = w.height.to_le_bytes();
+    let [x, x_high, y, y_high, mode] = cursor_bytes(w.cursor);
     [
-        (w.left % 256) as u8,
-        (w.left / 256) as u8,
-        (w.top % 256) as u8,
-        (w.top / 256) as u8,
-        (w.width % 256) as u8,
-        (w.width / 256) as u8,
-        (w.height % 256) as u8,
-        (w.height / 256) as u8,
-        (k.x % 256) as u8,
-        (k.x / 256) as u8,
-        (k.y % 256) as u8,
-        (k.y / 256) as u8,
-        k.mode,
+        left,
+        left_high,
+        top,
+        top_high,
+        width,
+        width_high,
+        height,
+        height_high,
+        x,
+        x_high,
+        y,
+        y_high,
+        mode,
     ]
 }
 
@@ -107,104 +120,69 @@ pub fn window_bytes(w: Window) -> [u8; WINDOW]
 pub fn base_bytes(k: Cursor, selected: u8) -> [u8; BASE]
     ensures { result ≡ base_bytes k selected }
 {
-    [
-        (k.x % 256) as u8,
-        (k.x / 256) as u8,
-        (k.y % 256) as u8,
-        (k.y / 256) as u8,
-        k.mode,
-        selected,
-    ]
+    let [x, x_high, y, y_high, mode] = cursor_bytes(k);
+    [x, x_high, y, y_high, mode, selected]
 }
 
 // What is held.
+#[tactic(auto, unfolding(crate::specs::Bytes::hold_bytes))]
 pub fn hold_bytes(hold: Hold) -> [u8; HOLD]
     ensures { result ≡ hold_bytes hold }
 {
-    match hold {
-        Hold::Free => [0; HOLD],
-        Hold::Held {
-            window,
-            selected,
-            settings,
-        } => {
-            let y = settings.style;
-            [
-                1,
-                window,
-                selected,
-                settings.charset,
-                settings.codes,
-                settings.caret,
-                settings.brightness,
-                settings.speed,
-                settings.width,
-                settings.write,
-                settings.switch,
-                y.reverse,
-                y.mixing,
-                y.across,
-                y.down,
-            ]
-        }
+    let mut bytes = [0; HOLD];
+    if let Hold::Held {
+        window,
+        selected,
+        settings,
+    } = hold
+    {
+        bytes[..3].copy_from_slice(&[1, window, selected]);
+        bytes[3..].copy_from_slice(&settings_bytes(settings));
     }
+    bytes
 }
 
 // What is half read, laid flat.
 pub fn slot_bytes(t: Slots) -> [u8; HALF]
     ensures { result ≡ slot_bytes t }
 {
+    let [p, p_high] = t.p.to_le_bytes();
+    let [q, q_high] = t.q.to_le_bytes();
+    let [r, r_high] = t.r.to_le_bytes();
+    let [s, s_high] = t.s.to_le_bytes();
     let c = t.columns;
     [
-        t.case,
-        t.a,
-        t.b,
-        t.c,
-        t.d,
-        (t.p % 256) as u8,
-        (t.p / 256) as u8,
-        (t.q % 256) as u8,
-        (t.q / 256) as u8,
-        (t.r % 256) as u8,
-        (t.r / 256) as u8,
-        (t.s % 256) as u8,
-        (t.s / 256) as u8,
-        c.width,
-        c.come,
-        c.c0,
-        c.c1,
-        c.c2,
-        c.c3,
-        c.c4,
-        c.c5,
-        c.c6,
+        t.case, t.a, t.b, t.c, t.d, p, p_high, q, q_high, r, r_high, s, s_high, c.width, c.come,
+        c.c0, c.c1, c.c2, c.c3, c.c4, c.c5, c.c6,
     ]
 }
 
 // What is half read. Most often nothing is, and that takes no way over the slots.
+#[tactic(auto, unfolding(record_half::specs::Slots::half_slots))]
 pub fn half_bytes(half: Half) -> [u8; HALF]
     ensures { result ≡ slot_bytes (half_slots half) }
 {
     match half {
         Half::Nothing => [0; HALF],
-        _ => slot_bytes(record_half::half_slots(half)),
+        _ => slot_bytes(half.into()),
     }
+}
+
+// A span.
+fn span_bytes(p: Span) -> [u8; SPAN]
+    ensures { result ≡ span_bytes p }
+{
+    let [first, first_high] = p.first.to_le_bytes();
+    let [end, end_high] = p.end.to_le_bytes();
+    [first, first_high, end, end_high]
 }
 
 // The spans of the two rows.
 pub fn spans_bytes(ps: Spans) -> [u8; SPANS]
     ensures { result ≡ spans_bytes ps }
 {
-    let p = ps[0];
-    let q = ps[1];
-    [
-        (p.first % 256) as u8,
-        (p.first / 256) as u8,
-        (p.end % 256) as u8,
-        (p.end / 256) as u8,
-        (q.first % 256) as u8,
-        (q.first / 256) as u8,
-        (q.end % 256) as u8,
-        (q.end / 256) as u8,
-    ]
+    let [upper, lower] = ps;
+    let [a, b, c, d] = span_bytes(upper);
+    let [e, f, g, h] = span_bytes(lower);
+    [a, b, c, d, e, f, g, h]
 }

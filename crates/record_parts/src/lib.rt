@@ -1,5 +1,6 @@
 // The parts of a state's bytes that a call tests or hands on: settings, what is held, what is half read. docs/RECORD.md has the layout.
-// It uses the paper, numbers for a 16-bit number, record_half for what is half read, and record_bytes for the lengths.
+// It uses the paper, record_half for what is half read, and record_bytes for the lengths.
+// Each is handed all the bytes and a place, as its definition in specs/Parts is: a part as an array would ask its caller to cut it out.
 #![tactic(auto)]
 
 ghost use Rattle.std.specs.Prelude.{◌≡◌, ◌+◌, ◌≤◌, length};
@@ -14,7 +15,7 @@ pub fn word_at(l: &[u8], i: usize) -> u16
     requires { i + 2 ≤ length l.now }
     ensures { result ≡ word_at l.now i }
 {
-    numbers::word16(l[i], l[i + 1])
+    u16::from_le_bytes([l[i], l[i + 1]])
 }
 
 // The settings.
@@ -42,19 +43,19 @@ pub fn settings_at(l: &[u8], i: usize) -> Settings
 }
 
 // What is held; a first byte other than 1 is taken for nothing, whose bytes are others.
+#[tactic(auto, unfolding(crate::specs::Parts::hold_at))]
 pub fn hold_at(l: &[u8], i: usize) -> Hold
     requires { i + hold_length ≤ length l.now }
     ensures { result ≡ hold_at l.now i }
 {
-    if l[i] == 1 {
-        let settings = settings_at(l, i + 3);
-        return Hold::Held {
+    match l[i] {
+        1 => Hold::Held {
             window: l[i + 1],
             selected: l[i + 2],
-            settings,
-        };
+            settings: settings_at(l, i + 3),
+        },
+        _ => Hold::Free,
     }
-    Hold::Free
 }
 
 // The columns of a download as they come.
@@ -76,6 +77,7 @@ fn columns_at(l: &[u8], i: usize) -> Columns
 }
 
 // What is half read, laid flat.
+#[tactic(auto, unfolding(crate::specs::Parts::slots_at))]
 pub fn slots_at(l: &[u8], i: usize) -> Slots
     requires { i + half_length ≤ length l.now }
     ensures { result ≡ slots_at l.now i }

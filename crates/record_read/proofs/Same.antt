@@ -1,11 +1,13 @@
 -- Whether two lists are the same. Assumes nothing.
-use Prim.Native.Nat.{ℕ, zero, suc, ◌+◌, ◌<◌, ◌≤◌}
+use Prim.Native.Nat.{ℕ, zero, suc, ◌+◌, ◌-◌, ◌<◌, ◌≤◌}
 use mathlib.Core.Path.{◌≡◌, refl, sym, ap, ap₂, ◌∙◌}
 use mathlib.Core.List.{List, [], ◌∷◌, ◌++◌}
 use mathlib.Core.Bool.{Bool, true, ◌&&◌, and_assoc, and-true, false≢true}
-use lib.ListN.{length, get_or, take}
+use lib.ListN.{length, get_or, take, drop}
+use lib.Pointwise.{pointwise}
+use Rattle.std.specs.Prelude.{nat_eq}
 use lib.Dec.{eqb}
-use lib.Seq.{take_all}
+use lib.Seq.{drop-cons}
 use native.Mathlib.Omega.{arith}
 use native.Mathlib.Numerals.{add-one}
 use borrow.Author.Tests.{eq-eqb, eqb-true}
@@ -13,31 +15,26 @@ use Rattle.paper.specs.Panel.{bytes_from}
 use Rattle.laws_bytes.proofs.Tests.{both_of}
 use Rattle.record_read.specs.Record.{same}
 
--- ---- a list and a part of another, byte by byte
+-- ---- a list and a part of another
 
--- one more byte of each
-same_more : (a l : List ℕ) (at i : ℕ) → i < length a
-    → (same (take i a) (bytes_from i at l) && eqb (get_or a i 0) (get_or l (at + i) 0)) ≡ same (take (suc i) a) (bytes_from (suc i) at l)
-same_more [] l at i h = absurd (omega arith)
-same_more (x ∷ a) l at zero h =
-    let n : at + 0 ≡ at = omega arith in
-    rw n (sym (and-true (eqb x (get_or l at 0))))
-same_more (x ∷ a) l at (suc i) h =
-    let n : at + suc i ≡ suc at + i = omega arith in
-    rw n
-    (and_assoc (eqb x (get_or l at 0)) (same (take i a) (bytes_from i (suc at) l)) (eqb (get_or a i 0) (get_or l (suc at + i) 0))
-    ∙ ap (λ (t : Bool). eqb x (get_or l at 0) && t) (same_more a l (suc at) i (omega arith)))
+-- std's equality of bytes is the same test
+pointwise-same : (a b : List ℕ) → pointwise nat_eq a b ≡ same a b
+pointwise-same [] [] = refl
+pointwise-same [] (y ∷ b) = refl
+pointwise-same (x ∷ a) [] = refl
+pointwise-same (x ∷ a) (y ∷ b) = ap (λ (t : Bool). nat_eq x y && t) (pointwise-same a b)
 
--- what a loop over both knows of the bytes so far, with one more byte, and at the end
-pub same_next : {r : Bool} (a l : List ℕ) (at i : ℕ) → i < length a → r ≡ same (take i a) (bytes_from i at l)
-    → (r && eqb (get_or a i 0) (get_or l (at + i) 0)) ≡ same (take (i + 1) a) (bytes_from (i + 1) at l)
-same_next a l at i h e = rw (e, add-one) (same_more a l at i h)
+-- a part by its bytes
+part_from : (n i : ℕ) (l : List ℕ) → i + n ≤ length l → take n (drop i l) ≡ bytes_from n i l
+part_from zero i l h = refl
+part_from (suc n) i l h =
+    rw (drop-cons l i 0 (omega arith)) (ap (λ (t : List ℕ). get_or l i 0 ∷ t) (part_from n (suc i) l (omega arith)))
 
-pub same-all : {r : Bool} (a l : List ℕ) (at i : ℕ) → length a ≤ i → i ≤ length a → r ≡ same (take i a) (bytes_from i at l)
-    → r ≡ same a (bytes_from (length a) at l)
-same-all a l at i h k e =
-    let n : i ≡ length a = omega arith in
-    e ∙ ap₂ same (take_all i a h) (ap (λ (n : ℕ). bytes_from n at l) n)
+pub same_part : (a l : List ℕ) (at : ℕ) → at + length a ≤ length l
+    → pointwise nat_eq a (take (at + length a - at) (drop at l)) ≡ same a (bytes_from (length a) at l)
+same_part a l at h =
+    let n : at + length a - at ≡ length a = omega arith in
+    rw (n, part_from (length a) at l h) (pointwise-same a (bytes_from (length a) at l))
 
 -- ---- it is equality
 

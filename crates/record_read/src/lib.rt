@@ -4,53 +4,50 @@
 // record_bytes, to see whether the bytes are those of a state.
 #![tactic(auto)]
 
-ghost use Rattle.std.specs.Prelude.{◌≡◌, true, ◌+◌, ◌≤◌, length};
+ghost use Rattle.std.specs.Prelude.{◌≡◌, true, ◌+◌, ◌≤◌, ◌&&◌, ◌==◌, length};
+ghost use Rattle.std.specs.List.{fold};
 ghost use Rattle.paper.specs.Panel.{bytes_from};
-ghost use Rattle.record_bytes.specs.Bytes.{state_length, encoded};
+ghost use Rattle.record_bytes.specs.Bytes.{encoded};
 ghost use Rattle.record_parts.specs.Parts.{decoded_with};
 ghost use Rattle.record_read.specs.Record.{Idle, same, state_of};
 
 use paper::{Half, Hold, State};
-use record_bytes::{AT_HALF, AT_HOLD, AT_UPPER};
+use record_bytes::{AT_HALF, AT_HOLD, AT_UPPER, STATE};
 
 // Whether a part of l, from `at` on, is these bytes.
 fn is_at(a: &[u8], l: &[u8], at: usize) -> bool
     requires { at + length a.now ≤ length l.now }
     ensures { result ≡ same a.now (bytes_from (length a.now) at l.now) }
 {
-    let mut r = true;
-    for i in 0..a.len() {
-        r = r & (a[i] == l[at + i]);
-    }
-    r
+    a == &l[at..at + a.len()]
 }
 
 // Whether bytes are those of their state, with this held and this half read: only the bytes of these two can be others.
-fn is_written(l: &[u8], hold: Hold, half: Half) -> bool
-    requires { length l.now ≡ state_length }
+fn is_written(l: &[u8; STATE], hold: Hold, half: Half) -> bool
     ensures { result ≡ same (encoded (decoded_with l.now hold half)) l.now }
 {
     let held = record_bytes::hold_bytes(hold);
-    let read = record_bytes::slot_bytes(record_half::half_slots(half));
+    let read = record_bytes::slot_bytes(half.into());
     is_at(&held, l, AT_HOLD) & is_at(&read, l, AT_HALF)
 }
 
+// Whether all of them are 0. Each is looked at: with no way out of the turns the compiler tests many at once.
+fn is_zero(l: &[u8]) -> bool
+    ensures { result ≡ fold (λ zero b. zero && (b == 0)) true l.now }
+{
+    l.iter().fold(true, |zero, b| zero & (*b == 0))
+}
+
 // Whether the bytes of what is held and of what is half read are all 0.
-fn is_idle(l: &[u8]) -> bool
-    requires { length l.now ≡ state_length }
+fn is_idle(l: &[u8; STATE]) -> bool
     ensures { result ≡ true → Idle l.now }
 {
-    let mut r = true;
-    for j in AT_HOLD..AT_UPPER {
-        r = r & (l[j] == 0);
-    }
-    r
+    is_zero(&l[AT_HOLD..AT_UPPER])
 }
 
 // The state that bytes stand for: those that no state is encoded by stand for a broken one, which every call refuses. With nothing
 // held or half read there are no such bytes.
-pub fn state_of(l: &[u8]) -> State
-    requires { length l.now ≡ state_length }
+pub fn state_of(l: &[u8; STATE]) -> State
     ensures { result ≡ state_of l.now }
 {
     let s = record_state::decode_with(l, Hold::Free, Half::Nothing);

@@ -20,27 +20,6 @@ use Rattle.paper.specs.Settings.{make_state, with_spans}
 use Rattle.record_bytes.specs.Bytes.{hold_length, at_base, state_length, record_length, hold_bytes, windows_bytes, spans_into, tail_bytes, encoded, record_of}
 use Rattle.record_write.specs.Parts.{Put}
 
--- ---- a part, byte by byte
-
--- nothing is copied yet
-pub nothing_copied : (to : List ℕ) (at : ℕ) → take (at + 0) to ≡ take at to ++ []
-nothing_copied to at = rw (add-zero, append-nil)
-
--- one byte more: `to₀` is what was there before the copy, `to` the one with j bytes of `src` in it
-pub copied_more : (to₀ to src : List ℕ) (at j : ℕ) → at + j < length to → j < length src
-    → take (at + j) to ≡ take at to₀ ++ take j src
-    → take (at + (j + 1)) (set to (at + j) (get_or src j 0)) ≡ take at to₀ ++ take (j + 1) src
-copied_more to₀ to src at j h k e =
-    let n : at + (j + 1) ≡ suc (at + j) = omega arith in
-    rw (n, take-suc-set to (at + j) (get_or src j 0), e, append_assoc, add-one, take-suc src j 0)
-
--- all of it
-pub copied : (to₀ to src : List ℕ) (at j : ℕ) → length src ≤ j → j ≤ length src
-    → take (at + j) to ≡ take at to₀ ++ take j src → Put at to₀ to src
-copied to₀ to src at j h k e =
-    let n : length src ≡ j = omega arith in
-    record { said = rw n (e ∙ ap (λ (l : List ℕ). take at to₀ ++ l) (take_all j src h)) }
-
 -- ---- part by part
 
 -- the bytes of a part are known

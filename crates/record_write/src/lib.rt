@@ -14,33 +14,28 @@ fn put(src: &[u8], to: &mut [u8], at: usize)
     requires { at + length src.now ≤ length to.old }
     ensures { Put at to.old to.new src.now }
 {
-    for j in 0..src.len() {
-        to[at + j] = src[j];
-    }
+    to[at..at + src.len()].copy_from_slice(src);
 }
 
-// Puts the four user windows, after the settings.
+// Puts the four user windows, after the settings. Four lines and no loop: each place has its name in the layout, as in the definition.
 fn put_windows(ws: [Window; 4], to: &mut [u8])
     requires { length to.old ≡ state_length }
     ensures { Put at_first to.old to.new (windows_bytes ws) }
 {
-    let a = record_bytes::window_bytes(ws[0]);
-    put(&a, to, AT_FIRST);
-    let b = record_bytes::window_bytes(ws[1]);
-    put(&b, to, AT_SECOND);
-    let c = record_bytes::window_bytes(ws[2]);
-    put(&c, to, AT_THIRD);
-    let d = record_bytes::window_bytes(ws[3]);
-    put(&d, to, AT_FOURTH);
+    let [a, b, c, d] = ws;
+    put(&record_bytes::window_bytes(a), to, AT_FIRST);
+    put(&record_bytes::window_bytes(b), to, AT_SECOND);
+    put(&record_bytes::window_bytes(c), to, AT_THIRD);
+    put(&record_bytes::window_bytes(d), to, AT_FOURTH);
 }
 
 // Writes the spans into a state's bytes, which they end, and leaves all before them.
+// It takes a slice and no array of STATE bytes: the edit face/spans_end_the_record hands it one of another length.
 pub fn put_spans(ps: Spans, to: &mut [u8])
     requires { length to.old ≡ state_length }
     ensures { to.new ≡ spans_into to.old ps }
 {
-    let a = record_bytes::spans_bytes(ps);
-    put(&a, to, AT_UPPER);
+    put(&record_bytes::spans_bytes(ps), to, AT_UPPER);
 }
 
 // Puts what follows the windows.
@@ -48,28 +43,18 @@ fn put_tail(s: State, to: &mut [u8])
     requires { length to.old ≡ state_length }
     ensures { Put at_base to.old to.new (tail_bytes s) }
 {
-    let base = s.base;
-    let hold = s.hold;
-    let half = s.half;
-    let spans = s.spans;
-    let a = record_bytes::base_bytes(base, s.selected);
-    put(&a, to, AT_BASE);
-    let b = record_bytes::hold_bytes(hold);
-    put(&b, to, AT_HOLD);
-    let c = record_bytes::half_bytes(half);
-    put(&c, to, AT_HALF);
-    put_spans(spans, to);
+    put(&record_bytes::base_bytes(s.base, s.selected), to, AT_BASE);
+    put(&record_bytes::hold_bytes(s.hold), to, AT_HOLD);
+    put(&record_bytes::half_bytes(s.half), to, AT_HALF);
+    put_spans(s.spans, to);
 }
 
-// Writes a state as bytes.
+// Writes a state as bytes. It and its parts take a slice, as above: the edit face/state_of_116_bytes hands it one of another length.
 pub fn encode(s: State, to: &mut [u8])
     requires { length to.old ≡ state_length }
     ensures { to.new ≡ encoded s }
 {
-    let settings = s.settings;
-    let windows = s.windows;
-    let a = record_bytes::settings_bytes(settings);
-    put(&a, to, 0);
-    put_windows(windows, to);
+    put(&record_bytes::settings_bytes(s.settings), to, 0);
+    put_windows(s.windows, to);
     put_tail(s, to);
 }

@@ -1,22 +1,14 @@
 -- `face_glass::refresh` meets its contract: a record of another length, or the refresh on the state that it stands for. Assumes nothing.
 use borrow.Author.Rules.{rules}
-use mathlib.Core.Path.{sym}
-use Rattle.face.proofs.Parts.{state_long, store_lent}
+use mathlib.Core.Path.{ap, ◌∙◌}
+use Rattle.record_read.specs.Record.{state_of}
+use Rattle.face.proofs.Parts.{store_lent}
 use Rattle.face.proofs.Calls.{refresh_length, refresh_told}
 use Rattle.face_glass.proofs.refresh.Goals as goal
 
 pub returns-then-state-ne-RECORD : goal.returns-then-state-ne-RECORD
 returns-then-state-ne-RECORD c =
     refresh_length c.args.g c.args.state.now c.if-state-ne-RECORD.true c.args.mem.now c.args.glass.now
-
--- the state's bytes are lent, as many as they are
-pub slice_bounds-state_of-end-2 : goal.slice_bounds-state_of-end-2
-slice_bounds-state_of-end-2 c =
-    sym (state_long c.args.state.now c.if-state-ne-RECORD.false)
-
-pub state_of-s-requires : goal.state_of-s-requires
-state_of-s-requires c =
-    state_long c.args.state.now c.if-state-ne-RECORD.false
 
 pub refresh-r-requires : goal.refresh-r-requires
 refresh-r-requires c =
@@ -25,7 +17,8 @@ refresh-r-requires c =
 pub returns : goal.returns
 returns c =
     let l = c.args.state.now in
-    refresh_told c.args.g l c.if-state-ne-RECORD.false _ _ _ (store_lent l c.if-state-ne-RECORD.false) _ c.state_of-s.ensures
+    let first = rw c.unwrap.ensures at c.first_chunk.ensures.cases in
+    refresh_told c.args.g l c.if-state-ne-RECORD.false _ _ _ (store_lent l c.if-state-ne-RECORD.false) _ (c.state_of-s.ensures ∙ ap state_of first.same)
     c.args.mem.now c.args.glass.now _ _
     c.refresh-r.ensures
     c.refusal_number-answer.ensures

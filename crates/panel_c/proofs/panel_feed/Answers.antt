@@ -1,27 +1,19 @@
 -- `panel_feed` meets its contract: a record of another length, or the feed for this module on the state that it stands for.
 -- Assumes nothing.
 use borrow.Author.Rules.{rules}
-use mathlib.Core.Path.{refl, sym, ap, ◌∙◌}
+use mathlib.Core.Path.{refl, ap, ◌∙◌}
 use Rattle.paper.specs.declared.Module.{Module}
 use Rattle.paper.specs.Panel.{panel}
 use Rattle.laws_state.proofs.Views.{panel_usable}
 use Rattle.face.specs.Face.{feed_c}
-use Rattle.face.proofs.Parts.{state_long, store_lent}
+use Rattle.record_read.specs.Record.{state_of}
+use Rattle.face.proofs.Parts.{store_lent}
 use Rattle.face.proofs.Calls.{feed_length, feed_told}
 use Rattle.panel_c.proofs.panel_feed.Goals as goal
 
 pub returns-then-state-ne-RECORD : goal.returns-then-state-ne-RECORD
 returns-then-state-ne-RECORD c =
     feed_length panel c.args.state.now c.if-state-ne-RECORD.true c.args.mem.now c.args.font.now c.args.piece.now
-
--- the state's bytes are lent, as many as they are
-pub slice_bounds-state_of-end-2 : goal.slice_bounds-state_of-end-2
-slice_bounds-state_of-end-2 c =
-    sym (state_long c.args.state.now c.if-state-ne-RECORD.false)
-
-pub state_of-s-requires : goal.state_of-s-requires
-state_of-s-requires c =
-    state_long c.args.state.now c.if-state-ne-RECORD.false
 
 pub feed-f-requires : goal.feed-f-requires
 unfolding panel
@@ -31,7 +23,8 @@ feed-f-requires c =
 pub returns : goal.returns
 returns c =
     let l = c.args.state.now in
-    feed_told c.small.result l c.if-state-ne-RECORD.false _ _ _ (store_lent l c.if-state-ne-RECORD.false) _ c.state_of-s.ensures
+    let first = rw c.unwrap.ensures at c.first_chunk.ensures.cases in
+    feed_told c.small.result l c.if-state-ne-RECORD.false _ _ _ (store_lent l c.if-state-ne-RECORD.false) _ (c.state_of-s.ensures ∙ ap state_of first.same)
     c.args.mem.now c.args.font.now c.args.piece.now _ _ _ _
     c.feed-f.ensures
     c.refusal_number-answer.ensures

@@ -6,6 +6,6 @@ use Rattle.record_read.proofs.is_written.Goals as goal
 
 pub returns : goal.returns
 returns c =
-    both_tested c.args.l.now (λ k. (c.shared_slice_known-1.given k).fits) c.args.hold c.args.half c.requires
-    c.hold_bytes-held.ensures (c.slot_bytes-read.ensures ∙ ap slot_bytes c.half_slots.ensures)
+    both_tested c.args.l.now c.fits-l c.args.hold c.args.half c.told-l
+    c.hold_bytes-held.ensures (c.slot_bytes-read.ensures ∙ ap slot_bytes c.into.ensures)
     c.is_at.ensures c.is_at-2.ensures

@@ -8,7 +8,7 @@ use Rattle.record_read.proofs.state_of.Goals as goal
 pub returns-then-is_idle : goal.returns-then-is_idle
 returns-then-is_idle c =
     c.decode_with-s.ensures
-    ∙ idle_stands c.args.l.now (λ k. (c.shared_slice_known-1.given k).fits) c.requires (c.is_idle.ensures c.if-is_idle.true)
+    ∙ idle_stands c.args.l.now c.fits-l c.told-l (c.is_idle.ensures c.if-is_idle.true)
 
 pub returns-then-is_written : goal.returns-then-is_written
 returns-then-is_written c =

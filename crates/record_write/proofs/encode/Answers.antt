@@ -9,5 +9,5 @@ pub returns : goal.returns
 unfolding encoded windows_bytes
 returns c =
     whole state_length (search rules) (encoded-length c.args.s)
-    (after refl (known c.settings_bytes-a.ensures c.put.ensures)
+    (after refl (known c.settings_bytes.ensures c.put.ensures)
     (after refl c.put_windows.ensures c.put_tail.ensures))

@@ -5,4 +5,4 @@ use Rattle.record_write.proofs.put_spans.Goals as goal
 
 pub returns : goal.returns
 returns c =
-    ended (search rules) (known c.spans_bytes-a.ensures c.put.ensures)
+    ended (search rules) (known c.spans_bytes.ensures c.put.ensures)

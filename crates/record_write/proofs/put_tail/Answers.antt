@@ -22,9 +22,9 @@ put_spans-requires c =
 pub returns : goal.returns
 unfolding tail_bytes
 returns c =
-    let slots = c.half_bytes-c.ensures in
-    after refl (known c.base_bytes-a.ensures c.put.ensures)
+    let slots = c.half_bytes.ensures in
+    after refl (known c.base_bytes.ensures c.put.ensures)
     (after (ap (λ (n : ℕ). at_hold + n) (hold_length_lem _))
-    (known c.hold_bytes-b.ensures c.put-2.ensures)
+    (known c.hold_bytes.ensures c.put-2.ensures)
     (after refl (known slots c.put-3.ensures)
     (ends c.put_spans.ensures)))

@@ -8,7 +8,7 @@ use Rattle.record_write.proofs.put_windows.Goals as goal
 pub returns : goal.returns
 unfolding windows_bytes
 returns c =
-    after refl (known c.window_bytes-a.ensures c.put.ensures)
-    (after refl (known c.window_bytes-b.ensures c.put-2.ensures)
-    (after refl (known c.window_bytes-c.ensures c.put-3.ensures)
-    (known c.window_bytes-d.ensures c.put-4.ensures)))
+    after refl (known c.window_bytes.ensures c.put.ensures)
+    (after refl (known c.window_bytes-2.ensures c.put-2.ensures)
+    (after refl (known c.window_bytes-3.ensures c.put-3.ensures)
+    (known c.window_bytes-4.ensures c.put-4.ensures)))
