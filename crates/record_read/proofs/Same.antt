@@ -1,5 +1,5 @@
 -- Whether two lists are the same. Assumes nothing.
-use Prim.Native.Nat.{ℕ, zero, suc, ◌+◌, ◌-◌, ◌<◌, ◌≤◌}
+use Prim.Native.Nat.{ℕ, zero, suc, ◌+◌, ◌-◌, ◌≤◌}
 use mathlib.Core.Path.{◌≡◌, refl, sym, ap, ap₂, ◌∙◌}
 use mathlib.Core.List.{List, [], ◌∷◌, ◌++◌}
 use mathlib.Core.Bool.{Bool, true, ◌&&◌, and_assoc, and-true, false≢true}
@@ -9,7 +9,6 @@ use Rattle.std.specs.Prelude.{nat_eq}
 use lib.Dec.{eqb}
 use lib.Seq.{drop-cons}
 use native.Mathlib.Omega.{arith}
-use native.Mathlib.Numerals.{add-one}
 use borrow.Author.Tests.{eq-eqb, eqb-true}
 use Rattle.paper.specs.Panel.{bytes_from}
 use Rattle.laws_bytes.proofs.Tests.{both_of}

@@ -1,5 +1,4 @@
 -- `face_glass::refresh` meets its contract: a record of another length, or the refresh on the state that it stands for. Assumes nothing.
-use borrow.Author.Rules.{rules}
 use mathlib.Core.Path.{ap, ◌∙◌}
 use Rattle.record_read.specs.Record.{state_of}
 use Rattle.face.proofs.Parts.{store_lent}

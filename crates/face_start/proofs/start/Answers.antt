@@ -1,5 +1,4 @@
 -- `face_start::start` meets its contract: a record of another length, or one that is written. Assumes nothing.
-use borrow.Author.Rules.{rules}
 use mathlib.Core.Path.{sym, ap₂}
 use mathlib.Core.List.{◌++◌}
 use Rattle.face.proofs.Parts.{state_still, store_lent, store_in_lem}

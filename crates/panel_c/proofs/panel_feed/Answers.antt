@@ -1,6 +1,5 @@
 -- `panel_feed` meets its contract: a record of another length, or the feed for this module on the state that it stands for.
 -- Assumes nothing.
-use borrow.Author.Rules.{rules}
 use mathlib.Core.Path.{refl, ap, ◌∙◌}
 use Rattle.paper.specs.declared.Module.{Module}
 use Rattle.paper.specs.Panel.{panel}

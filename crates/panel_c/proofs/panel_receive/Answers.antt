@@ -1,5 +1,4 @@
 -- `panel_receive` meets its contract: it is `face_link`'s. Assumes nothing.
-use borrow.Author.Rules.{rules}
 use Rattle.panel_c.proofs.panel_receive.Goals as goal
 
 pub returns : goal.returns

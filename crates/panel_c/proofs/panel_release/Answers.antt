@@ -1,5 +1,4 @@
 -- `panel_release` meets its contract: the call for any module, for this one. Assumes nothing.
-use borrow.Author.Rules.{rules}
 use Rattle.panel_c.proofs.panel_release.Goals as goal
 
 pub returns : goal.returns

@@ -1,5 +1,4 @@
 -- `panel_start` meets its contract: the call for any module, for this one. Assumes nothing.
-use borrow.Author.Rules.{rules}
 use mathlib.Core.Path.{refl}
 use Rattle.paper.specs.Panel.{panel}
 use Rattle.laws_state.proofs.Views.{panel_usable}

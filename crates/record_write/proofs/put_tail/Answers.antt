@@ -3,7 +3,6 @@
 use Prim.Native.Nat.{ℕ, ◌+◌}
 use native.Mathlib.Omega.{arith}
 use mathlib.Core.Path.{refl, ap}
-use borrow.Author.Rules.{rules}
 use Rattle.record_bytes.specs.Bytes.{at_hold, tail_bytes}
 use Rattle.record_write.proofs.Laid.{known, after, ends, hold_length_lem}
 use Rattle.record_write.proofs.put_tail.Goals as goal

@@ -1,6 +1,5 @@
 -- `put_windows` meets its contract: a window's bytes after the other's. Assumes nothing.
 use mathlib.Core.Path.{refl}
-use borrow.Author.Rules.{rules}
 use Rattle.record_bytes.specs.Bytes.{windows_bytes}
 use Rattle.record_write.proofs.Laid.{known, after}
 use Rattle.record_write.proofs.put_windows.Goals as goal
