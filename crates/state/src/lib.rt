@@ -1,7 +1,9 @@
 // The state: what commands do to the state alone: the initial state, user windows and whether one is held.
 // It may use the paper and state_settings, and it knows nothing of memory or of how bytes are read. The current window's cursor and its
 // range are state_views'.
-// Each contract is the paper's definition of the same name.
+// Each contract is the paper's definition of the same name. State, Hold and Window are the paper's, which holds no code: what is asked
+// of them is a function here and not a method. A window's number, 1 to 4, is asked for in each contract: the calls and commands that
+// bring one take any number, and answer one that is none.
 #![tactic(auto)]
 
 ghost use Rattle.std.specs.Prelude.{◌≡◌, ◌-◌, ◌≤◌, set};
@@ -18,9 +20,8 @@ fn top_left() -> Cursor
     ensures { result ≡ top_left }
 {
     Cursor {
-        x: 0,
-        y: 0,
         mode: 1,
+        ..Cursor::default()
     }
 }
 
@@ -28,18 +29,7 @@ fn top_left() -> Cursor
 fn no_window() -> Window
     ensures { result ≡ no_window }
 {
-    let cursor = Cursor {
-        x: 0,
-        y: 0,
-        mode: 0,
-    };
-    Window {
-        left: 0,
-        top: 0,
-        width: 0,
-        height: 0,
-        cursor,
-    }
+    Window::default()
 }
 
 // Every span empty.
@@ -47,8 +37,7 @@ pub fn no_spans(g: Module) -> Spans
     requires { g.rows ≡ 2 }
     ensures { result ≡ no_spans g }
 {
-    let nothing = Span { first: 0, end: 0 };
-    [nothing, nothing]
+    [Span::default(); 2]
 }
 
 // The initial state, both spans empty.
@@ -56,10 +45,9 @@ pub fn initial_state(g: Module) -> State
     requires { g.rows ≡ 2 }
     ensures { result ≡ initial_state g }
 {
-    let none = no_window();
     State {
         settings: state_settings::initial_settings(g),
-        windows: [none, none, none, none],
+        windows: [no_window(); 4],
         base: top_left(),
         selected: 0,
         hold: Hold::Free,
@@ -74,14 +62,7 @@ pub fn initial_state(g: Module) -> State
 pub fn is_held(h: Hold) -> bool
     ensures { result ≡ is_held h }
 {
-    match h {
-        Hold::Free => false,
-        Hold::Held {
-            window: _,
-            selected: _,
-            settings: _,
-        } => true,
-    }
+    matches!(h, Hold::Held { .. })
 }
 
 // The four user windows with one place changed: that of window k (1 to 4). Define, cancel and every move go through it.
@@ -100,9 +81,10 @@ pub fn replace(s: State, k: u8, w: Window) -> State
     requires { (1 ≤ k) × (k ≤ 4) }
     ensures { result ≡ defined s k w }
 {
-    let before = s.windows;
-    let windows = with_window(before, k, w);
-    State { windows, ..s }
+    State {
+        windows: with_window(s.windows, k, w),
+        ..s
+    }
 }
 
 // Defines user window k, its cursor at its top left, in MD1.
@@ -128,7 +110,6 @@ pub fn cancel(s: State, k: u8) -> State
     let mut t = replace(s, k, no_window());
     if s.selected == k {
         t.selected = 0;
-        return t;
     }
     t
 }

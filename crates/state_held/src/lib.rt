@@ -10,11 +10,10 @@ use paper::{Half, Hold, State};
 pub fn held_by(s: State, k: u8) -> State
     ensures { result ≡ held_by s k }
 {
-    let settings = s.settings;
     let hold = Hold::Held {
         window: k,
         selected: s.selected,
-        settings,
+        settings: s.settings,
     };
     let half = Half::Nothing;
     State {
@@ -32,19 +31,15 @@ pub fn put_back(s: State, h: Hold) -> State
     match h {
         Hold::Free => s,
         Hold::Held {
-            window: _,
             selected,
             settings,
-        } => {
-            let back = settings;
-            let dropped = Half::Nothing;
-            State {
-                settings: back,
-                selected,
-                hold: Hold::Free,
-                half: dropped,
-                ..s
-            }
-        }
+            ..
+        } => State {
+            settings,
+            selected,
+            hold: Hold::Free,
+            half: Half::Nothing,
+            ..s
+        },
     }
 }

@@ -35,20 +35,14 @@ pub fn initial_settings(g: Module) -> Settings
 pub fn not_carried_value(key: Key, n: u8) -> bool
     ensures { result ≡ not_carried_value key n }
 {
-    match key {
-        Key::Width => (2 <= n) & (n <= 3),
-        _ => false,
-    }
+    key == Key::Width && (2..=3).contains(&n)
 }
 
 // Whether a setting is the write mode.
 pub fn is_write(key: Key) -> bool
     ensures { result ≡ is_write key }
 {
-    match key {
-        Key::Write => true,
-        _ => false,
-    }
+    key == Key::Write
 }
 
 // The settings with one of them changed.
@@ -75,8 +69,12 @@ pub fn with_setting(v: Settings, key: Key, n: u8) -> Settings
 pub fn enlarge(v: Settings, x: u8, y: u8) -> Settings
     ensures { result ≡ enlarged v x y }
 {
-    let mut t = v;
-    t.style.across = x;
-    t.style.down = y;
-    t
+    Settings {
+        style: Style {
+            across: x,
+            down: y,
+            ..v.style
+        },
+        ..v
+    }
 }

@@ -1,6 +1,7 @@
 // The current window's cursor, and the range in which a command works: read from the state, and put back into it.
 // It may use the paper, and state to replace a window; it knows nothing of memory or of how bytes are read.
-// Each contract is the paper's definition of the same name.
+// Each contract is the paper's definition of the same name. That `selected` is 4 at most is asked for and no invariant of State: the
+// record that a caller lends can hold more, and number 8 tests it.
 #![tactic(auto)]
 
 ghost use Rattle.std.specs.Prelude.{◌≡◌, ◌+◌, ◌≤◌, ◌<◌};
@@ -15,10 +16,9 @@ fn current_window(s: State) -> Window
     requires { (1 ≤ s.selected) × (s.selected ≤ 4) }
     ensures { result ≡ window_at s.windows s.selected }
 {
-    let k = s.selected;
-    let i = (k - 1) as usize;
+    // an array is indexed in a copy of it: indexed in the state it would lay the state into memory (docs/PROVING.md)
     let windows = s.windows;
-    windows[i]
+    windows[(s.selected - 1) as usize]
 }
 
 // The current window's cursor and mode.
@@ -26,12 +26,11 @@ pub fn cursor_of(s: State) -> Cursor
     requires { s.selected ≤ 4 }
     ensures { result ≡ cursor_of s }
 {
-    let k = s.selected;
-    if k == 0 {
-        return s.base;
+    if s.selected == 0 {
+        s.base
+    } else {
+        current_window(s).cursor
     }
-    let w = current_window(s);
-    w.cursor
 }
 
 // The state with the current window's cursor and mode replaced.
@@ -39,15 +38,12 @@ pub fn at_cursor(s: State, c: Cursor) -> State
     requires { s.selected ≤ 4 }
     ensures { result ≡ at_cursor s c }
 {
-    let k = s.selected;
-    if k == 0 {
-        let mut t = s;
-        t.base = c;
-        return t;
+    if s.selected == 0 {
+        State { base: c, ..s }
+    } else {
+        let w = current_window(s);
+        state::replace(s, s.selected, Window { cursor: c, ..w })
     }
-    let mut w = current_window(s);
-    w.cursor = c;
-    state::replace(s, k, w)
 }
 
 // The current window in another mode.
@@ -55,9 +51,8 @@ pub fn in_mode(s: State, mode: u8) -> State
     requires { s.selected ≤ 4 }
     ensures { result ≡ in_mode s mode }
 {
-    let mut c = cursor_of(s);
-    c.mode = mode;
-    at_cursor(s, c)
+    let c = cursor_of(s);
+    at_cursor(s, Cursor { mode, ..c })
 }
 
 // Whether a place counted from the current window's top left lies in it.
@@ -65,12 +60,12 @@ pub fn inside_window(g: Module, s: State, x: u16, y: u16) -> bool
     requires { s.selected ≤ 4 }
     ensures { result ≡ inside_window g s x y }
 {
-    let k = s.selected;
-    if k == 0 {
-        return ((x as usize) < g.columns) & ((y as usize) < g.rows);
+    if s.selected == 0 {
+        ((x as usize) < g.columns) & ((y as usize) < g.rows)
+    } else {
+        let w = current_window(s);
+        (x < w.width) & (y < w.height)
     }
-    let w = current_window(s);
-    (x < w.width) & (y < w.height)
 }
 
 // ---- the range
@@ -82,7 +77,7 @@ fn base_view(g: Module, write: u8, c: Cursor) -> View
 {
     let x = c.x as usize;
     let visible = g.visible;
-    let mut view = View {
+    let view = View {
         left: 0,
         top: 0,
         width: g.columns,
@@ -92,16 +87,20 @@ fn base_view(g: Module, write: u8, c: Cursor) -> View
         mode: c.mode,
     };
     if write == 1 {
-        return view;
+        view
+    } else if x < visible {
+        View {
+            width: visible,
+            ..view
+        }
+    } else {
+        View {
+            left: visible,
+            width: g.columns - visible,
+            x: x - visible,
+            ..view
+        }
     }
-    if x < visible {
-        view.width = visible;
-        return view;
-    }
-    view.left = visible;
-    view.width = g.columns - visible;
-    view.x = x - visible;
-    view
 }
 
 // A user window's range.
@@ -125,13 +124,11 @@ pub fn view_of(g: Module, s: State) -> View
     requires { (s.selected ≤ 4) × (g.visible ≤ g.columns) }
     ensures { result ≡ view_of g s }
 {
-    let k = s.selected;
-    if k == 0 {
-        let v = s.settings;
-        let c = s.base;
-        return base_view(g, v.write, c);
+    if s.selected == 0 {
+        base_view(g, s.settings.write, s.base)
+    } else {
+        window_view(current_window(s))
     }
-    window_view(current_window(s))
 }
 
 // The state with the current window's cursor where a view has it.
@@ -139,28 +136,24 @@ pub fn with_view(s: State, v: View) -> State
     requires { (s.selected ≤ 4) × (v.left + v.x < 65536) × (v.top + v.y < 65536) }
     ensures { result ≡ with_view s v }
 {
-    let k = s.selected;
-    let left = v.left;
-    let top = v.top;
-    let x = v.x;
-    let y = v.y;
     let mode = v.mode;
-    if k == 0 {
-        return at_cursor(
+    if s.selected == 0 {
+        at_cursor(
             s,
             Cursor {
-                x: (left + x) as u16,
-                y: (top + y) as u16,
+                x: (v.left + v.x) as u16,
+                y: (v.top + v.y) as u16,
                 mode,
             },
-        );
+        )
+    } else {
+        at_cursor(
+            s,
+            Cursor {
+                x: v.x as u16,
+                y: v.y as u16,
+                mode,
+            },
+        )
     }
-    at_cursor(
-        s,
-        Cursor {
-            x: x as u16,
-            y: y as u16,
-            mode,
-        },
-    )
 }

@@ -16,9 +16,9 @@ returns-then-s-k c =
       c.no_window.ensures,
     )
 
-pub returns : goal.returns
+pub returns-else-s-k : goal.returns-else-s-k
 unfolding cancelled
-returns c =
+returns-else-s-k c =
     rw (
       ne_eqb _ _ c.if-s-k.false,
       c.replace-t.ensures,

@@ -10,7 +10,7 @@ pub returns : goal.returns
 unfolding initial_state
 returns c =
     rw (
-      c.no_window-none.ensures,
+      c.no_window.ensures,
       c.initial_settings.ensures,
       c.top_left.ensures,
       c.no_spans.ensures,

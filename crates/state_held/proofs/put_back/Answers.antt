@@ -16,18 +16,6 @@ put_held : (s : State) (h : Hold) (k back : ℕ) (v : Settings) → h ≡ Held k
     → with_hold (with_selected (with_settings (with_half s Nothing) v) back) Free ≡ put_back s h
 put_held s h k back v e = rw e
 
-pub enum_told-1 : goal.enum_told-1
-enum_told-1 c =
-    search rules
-
-pub enum_known-h : goal.enum_known-h
-enum_known-h c =
-    search rules
-
-pub returns-in-Free : goal.returns-in-Free
-returns-in-Free c =
-    search rules
-
 pub returns-in-Held : goal.returns-in-Held
 returns-in-Held c =
     search (rules, put_held)

@@ -1,18 +1,19 @@
--- `state_settings::not_carried_value` meets its contract: at no key but Width is a value not carried. Assumes nothing.
-use mathlib.Core.List.{[], ◌∷◌}
+-- `state_settings::not_carried_value` meets its contract: the derived `==` and the range are the paper's test. Assumes nothing.
 use borrow.Author.Rules.{rules}
-use Rattle.paper.specs.Carry.{not_carried_value}
-use Rattle.state_settings.proofs.Keys.{elsewhere}
-use borrow.Enum.Refused.{opened}
+use mathlib.Core.Path.{◌≡◌, ◌∙◌}
+use Rattle.paper.specs.Reading.{between}
+use Rattle.state_settings.proofs.Keys.{same_width}
 use Rattle.state_settings.proofs.not_carried_value.Goals as goal
 
-pub returns-in-Width : goal.returns-in-Width
-unfolding not_carried_value
-returns-in-Width c =
-    rw c.in-Width.is
+pub returns-then-eq : goal.returns-then-eq
+returns-then-eq c =
+    let inside : c.contains.result ≡ between 2 3 c.args.n = search rules in
+    let same = same_width c.args.key c.args.n in
+    let is_width = c.if-eq.ensures in
+    inside ∙ (rw (← is_width) at same)
 
-pub returns-in_default : goal.returns-in_default
-unfolding not_carried_value
-returns-in_default c =
-    elsewhere (λ k. not_carried_value k c.args.n) (0 ∷ 1 ∷ 2 ∷ 3 ∷ 4 ∷ 5 ∷ 6 ∷ 8 ∷ 9 ∷ [])
-    c.args.key (search rules) (opened c.in_default.in_default-own.keys2)
+pub returns-else-eq : goal.returns-else-eq
+returns-else-eq c =
+    let same = same_width c.args.key c.args.n in
+    let is_another = c.if-eq.ensures in
+    c.if-eq.false ∙ (rw (← is_another) at same)

@@ -1,5 +1,4 @@
 -- `state_views::base_view` meets its contract: all of memory, its visible part, or its hidden part. Assumes nothing.
-use native.Mathlib.Omega.{arith}
 use borrow.Author.Tests.{eq-eqb, ne_eqb, lt-ltb, le-ltb}
 use Rattle.paper.specs.Settings.{base_view}
 use Rattle.state_views.proofs.base_view.Goals as goal
@@ -14,7 +13,7 @@ unfolding base_view
 returns-then-x-visible c =
     rw (ne_eqb _ _ c.if-write-eq1.false, lt-ltb _ _ c.if-x-visible.true)
 
-pub returns : goal.returns
+pub returns-else-x-visible : goal.returns-else-x-visible
 unfolding base_view
-returns c =
+returns-else-x-visible c =
     rw (ne_eqb _ _ c.if-write-eq1.false, le-ltb _ _ c.if-x-visible.false)

@@ -1,15 +1,14 @@
 -- `state_views::cursor_of` meets its contract: the base where 0 is selected, else user window k. Assumes nothing.
-use native.Mathlib.Omega.{arith}
 use borrow.Author.Tests.{eq-eqb, ne_eqb}
 use Rattle.paper.specs.Settings.{cursor_of}
 use Rattle.state_views.proofs.cursor_of.Goals as goal
 
-pub returns-then-k-eq0 : goal.returns-then-k-eq0
+pub returns-then-s-eq0 : goal.returns-then-s-eq0
 unfolding cursor_of
-returns-then-k-eq0 c =
-    rw (eq-eqb _ _ c.if-k-eq0.true)
+returns-then-s-eq0 c =
+    rw (eq-eqb _ _ c.if-s-eq0.true)
 
-pub returns : goal.returns
+pub returns-else-s-eq0 : goal.returns-else-s-eq0
 unfolding cursor_of
-returns c =
-    rw (c.current_window-w.ensures, ne_eqb _ _ c.if-k-eq0.false)
+returns-else-s-eq0 c =
+    rw (c.current_window.ensures, ne_eqb _ _ c.if-s-eq0.false)
