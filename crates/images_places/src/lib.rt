@@ -11,7 +11,7 @@ ghost use Rattle.images_places.specs.Places.{place_after, from_cursor};
 
 use paper::{Module, Style, View};
 
-// The place of an image's byte.
+// The place of an image's byte. A place that goes in stays two numbers, as the paper's ImageData has them.
 #[derive(Clone, Copy)]
 pub struct Place {
     pub column: u16,
@@ -24,14 +24,15 @@ pub fn place_after(height: u16, column: u16, row: u16) -> Place
     ensures { result ≡ place_after height column row }
 {
     if row + 1 < height {
-        return Place {
+        Place {
             column,
             row: row + 1,
-        };
-    }
-    Place {
-        column: column + 1,
-        row: 0,
+        }
+    } else {
+        Place {
+            column: column + 1,
+            row: 0,
+        }
     }
 }
 

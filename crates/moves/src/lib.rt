@@ -20,24 +20,36 @@ pub struct Spot {
     pub spans: Spans,
 }
 
-// ---- places
+impl Spot {
+    // The spot with its cursor at (x, y); nothing is written.
+    pub fn place(self, x: usize, y: usize) -> Spot
+        ensures { result ≡ spot (to self.view x y) self.spans }
+    {
+        Spot {
+            view: to(self.view, x, y),
+            ..self
+        }
+    }
+
+    // The spot after a rectangle was written: its spans have grown by it.
+    pub fn marked(self, r: Rect) -> Spot
+        requires { (r.left + r.width < 65536) × (r.top + r.height < 65536) }
+        ensures { result ≡ spot self.view (mark_rect r self.spans) }
+    {
+        Spot {
+            spans: spans::mark(self.spans, r),
+            ..self
+        }
+    }
+}
+
+// ---- places in a range: View is the paper's, which holds no code, so they are functions
 
 // The cursor at (x, y).
 pub fn to(v: View, x: usize, y: usize) -> View
     ensures { result ≡ to v x y }
 {
     View { x, y, ..v }
-}
-
-// The spot with its cursor at (x, y); nothing is written.
-pub fn place(p: Spot, x: usize, y: usize) -> Spot
-    ensures { result ≡ spot (to p.view x y) p.spans }
-{
-    let v = p.view;
-    Spot {
-        view: to(v, x, y),
-        ..p
-    }
 }
 
 // The range.
@@ -52,18 +64,6 @@ pub fn range(v: View) -> Rect
     }
 }
 
-// The spot after a rectangle was written: its spans have grown by it.
-pub fn marked(p: Spot, r: Rect) -> Spot
-    requires { (r.left + r.width < 65536) × (r.top + r.height < 65536) }
-    ensures { result ≡ spot p.view (mark_rect r p.spans) }
-{
-    let before = p.spans;
-    Spot {
-        spans: spans::mark(before, r),
-        ..p
-    }
-}
-
 // ---- the moves
 
 // The range moves up l rows, and all of it is written; the cursor stays.
@@ -71,10 +71,9 @@ pub fn scroll(g: Module, mem: &mut [u8], p: Spot, l: usize) -> Spot
     requires { Usable g × (InMemory g p.view × Fits g mem.old) }
     ensures { Does g p.spans mem.old result mem.new (writing (up_stroke g p.view l) p.view) }
 {
-    let v = p.view;
-    let r = range(v);
+    let r = range(p.view);
     dots_shift::scroll_up(g, mem, r, l);
-    marked(p, r)
+    p.marked(r)
 }
 
 // CLR.
@@ -82,8 +81,7 @@ pub fn clear(g: Module, mem: &mut [u8], p: Spot) -> Spot
     requires { Usable g × (InMemory g p.view × Fits g mem.old) }
     ensures { Does g p.spans mem.old result mem.new (clear_of p.view) }
 {
-    let v = p.view;
-    let r = range(v);
+    let r = range(p.view);
     dots::clear(g, mem, r);
-    place(marked(p, r), 0, 0)
+    p.marked(r).place(0, 0)
 }

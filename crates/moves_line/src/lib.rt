@@ -18,12 +18,11 @@ fn line_down_up(g: Module, mem: &mut [u8], p: Spot, l: usize) -> Spot
     ensures { Does g p.spans mem.old result mem.new (line_down_up g p.view l) }
 {
     let v = p.view;
-    let x = v.x;
-    let y = v.y;
     if moves_views::room_below(v, l) {
-        return moves::place(p, x, y + l);
+        p.place(v.x, v.y + l)
+    } else {
+        moves::scroll(g, mem, p, l)
     }
-    moves::scroll(g, mem, p, l)
 }
 
 // LF.
@@ -31,16 +30,12 @@ pub fn line_feed(g: Module, mem: &mut [u8], p: Spot, l: usize) -> Spot
     requires { Usable g × (InMemory g p.view × ((l ≤ p.view.height) × Fits g mem.old)) }
     ensures { Does g p.spans mem.old result mem.new (line_feed_of g p.view l) }
 {
-    let v = p.view;
-    let mode = v.mode;
-    if mode == 1 {
-        return Spot {
-            view: moves_views::line_down(g, v, l),
+    match p.view.mode {
+        1 => Spot {
+            view: moves_views::line_down(g, p.view, l),
             ..p
-        };
+        },
+        2 => line_down_up(g, mem, p, l),
+        _ => p,
     }
-    if mode == 2 {
-        return line_down_up(g, mem, p, l);
-    }
-    p
 }

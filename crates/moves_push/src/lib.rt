@@ -27,5 +27,5 @@ pub fn push_left(g: Module, mem: &mut [u8], p: Spot, c: usize, l: usize) -> Spot
         ..moves::range(v)
     };
     dots_shift::move_left(g, mem, rows, x + 2 * c - width);
-    moves::place(moves::marked(p, rows), width - c, y)
+    p.marked(rows).place(width - c, y)
 }

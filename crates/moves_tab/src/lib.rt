@@ -19,9 +19,10 @@ fn next_line(v: View, l: usize) -> View
     ensures { result ≡ next_line v l }
 {
     if moves_views::room_below(v, l) {
-        return moves::to(v, 0, v.y + l);
+        moves::to(v, 0, v.y + l)
+    } else {
+        moves::to(v, 0, 0)
     }
-    moves::to(v, 0, 0)
 }
 
 // The next line of cells; without room the range scrolls up.
@@ -30,13 +31,11 @@ fn next_line_up(g: Module, mem: &mut [u8], p: Spot, l: usize) -> Spot
     ensures { Does g p.spans mem.old result mem.new (next_line_up g p.view l) }
 {
     let v = p.view;
-    let y = v.y;
-    let height = v.height;
     if moves_views::room_below(v, l) {
-        return moves::place(p, 0, y + l);
+        return p.place(0, v.y + l);
     }
     let q = moves::scroll(g, mem, p, l);
-    moves::place(q, 0, height - l)
+    q.place(0, v.height - l)
 }
 
 // HT.
@@ -45,21 +44,15 @@ pub fn tab(g: Module, mem: &mut [u8], p: Spot, c: usize, l: usize) -> Spot
     ensures { Does g p.spans mem.old result mem.new (ht_of g p.view c l) }
 {
     let v = p.view;
-    let x = v.x;
-    let y = v.y;
-    let width = v.width;
-    let mode = v.mode;
-    if x + 2 * c <= width {
-        return moves::place(p, x + c, y);
+    if v.x + 2 * c <= v.width {
+        return p.place(v.x + c, v.y);
     }
-    if mode == 1 {
-        return Spot {
+    match v.mode {
+        1 => Spot {
             view: next_line(v, l),
             ..p
-        };
+        },
+        2 => next_line_up(g, mem, p, l),
+        _ => moves_push::push_left(g, mem, p, c, l),
     }
-    if mode == 2 {
-        return next_line_up(g, mem, p, l);
-    }
-    moves_push::push_left(g, mem, p, c, l)
 }

@@ -13,8 +13,7 @@ pub fn room_below(v: View, l: usize) -> bool
     requires { (v.y < v.height) × (l ≤ v.height) × (v.height < 65536) }
     ensures { result ≡ room_below v l }
 {
-    let y = v.y;
-    y + 2 * l <= v.height
+    v.y + 2 * l <= v.height
 }
 
 // The line of cells below; without room, the top one in the column that the module says.
@@ -22,13 +21,10 @@ pub fn line_down(g: Module, v: View, l: usize) -> View
     requires { (v.y < v.height) × (l ≤ v.height) × (v.height < 65536) }
     ensures { result ≡ line_down g v l }
 {
-    let x = v.x;
-    let y = v.y;
     if room_below(v, l) {
-        return moves::to(v, x, y + l);
-    }
-    if g.keeps {
-        moves::to(v, x, 0)
+        moves::to(v, v.x, v.y + l)
+    } else if g.keeps {
+        moves::to(v, v.x, 0)
     } else {
         moves::to(v, 0, 0)
     }
@@ -39,15 +35,11 @@ pub fn back(v: View, c: usize, l: usize) -> View
     requires { c ≤ v.width }
     ensures { result ≡ back_of v c l }
 {
-    let x = v.x;
-    let y = v.y;
-    let width = v.width;
-    let mode = v.mode;
-    if c <= x {
-        return moves::to(v, x - c, y);
+    if c <= v.x {
+        moves::to(v, v.x - c, v.y)
+    } else if (v.mode != 3) & (l <= v.y) {
+        moves::to(v, v.width - c, v.y - l)
+    } else {
+        v
     }
-    if (mode != 3) & (l <= y) {
-        return moves::to(v, width - c, y - l);
-    }
-    v
 }

@@ -28,12 +28,9 @@ fn push(g: Module, mem: &mut [u8], font: &[u8], own: &[u8], p: Spot, cell: Cell,
     ensures { Does g p.spans mem.old result mem.new
         (character_of g (faces font.now own.now) cell.blanks cell.style code p.view) }
 {
-    let v = p.view;
-    let style = cell.style;
-    let r = text_cells::inside(v, cell.columns, cell.rows);
-    text_cells::draw_code(g, mem, font, own, code, cell.blanks, style, r);
-    let q = moves::marked(p, r);
-    moves_push::push_left(g, mem, q, cell.columns, cell.rows)
+    let r = text_cells::inside(p.view, cell.columns, cell.rows);
+    text_cells::draw_code(g, mem, font, own, code, cell.blanks, cell.style, r);
+    moves_push::push_left(g, mem, p.marked(r), cell.columns, cell.rows)
 }
 
 // One character where the cursor's line has no room for another after it.
@@ -43,14 +40,12 @@ fn last(g: Module, mem: &mut [u8], font: &[u8], own: &[u8], p: Spot, cell: Cell,
         (character_of g (faces font.now own.now) cell.blanks cell.style code p.view) }
 {
     let v = p.view;
-    let x = v.x;
-    let width = v.width;
-    let mode = v.mode;
     let c = cell.columns;
-    if (mode == 3) & ((width < x + 2 * c) & (x + c <= width)) {
-        return push(g, mem, font, own, p, cell, code);
+    if (v.mode == 3) & ((v.width < v.x + 2 * c) & (v.x + c <= v.width)) {
+        push(g, mem, font, own, p, cell, code)
+    } else {
+        text::character(g, mem, font, own, p, cell, code)
     }
-    text::character(g, mem, font, own, p, cell, code)
 }
 
 // The characters of a line; where the cursor's has no room for another after it, the one that wraps.
@@ -70,15 +65,12 @@ fn stretch(
         piece.now from result mem.new }
 {
     let v = p.view;
-    let x = v.x;
-    let y = v.y;
-    let width = v.width;
-    let height = v.height;
-    if (x + 2 * cell.columns <= width) & (y + cell.rows <= height) {
-        return runs_line::line(g, mem, font, own, p, cell, piece, from);
+    if (v.x + 2 * cell.columns <= v.width) & (v.y + cell.rows <= v.height) {
+        runs_line::line(g, mem, font, own, p, cell, piece, from)
+    } else {
+        let spot = last(g, mem, font, own, p, cell, piece[from]);
+        Drawn { spot, at: from + 1 }
     }
-    let spot = last(g, mem, font, own, p, cell, piece[from]);
-    Drawn { spot, at: from + 1 }
 }
 
 // The characters of a piece from `from` on, up to the first byte that is none.
@@ -100,6 +92,7 @@ pub fn run(
     let cell = glyphs::cell_of(g, w, style);
     let mut q = p;
     let mut i = from;
+    // a turn takes a stretch of any length, so no `for` can count it
     while i < piece.len() {
         let b = piece[i];
         if b < 0x20 {

@@ -33,16 +33,14 @@ pub fn image_bytes(
     let v = images_places::from_cursor(p.view);
     let mut x = column;
     let mut y = row;
-    let mut i = from;
-    while i < piece.len() {
+    for i in from..piece.len() {
         images_places::store(g, mem, v, style, x, y, piece[i]);
         let next = images_places::place_after(height, x, y);
         x = next.column;
         y = next.row;
-        i += 1;
         if x == width {
-            return images_marks::filled_to(p, height, column, row, x, y, i);
+            return images_marks::filled_to(p, height, column, row, x, y, i + 1);
         }
     }
-    images_marks::filled_to(p, height, column, row, x, y, i)
+    images_marks::filled_to(p, height, column, row, x, y, piece.len())
 }

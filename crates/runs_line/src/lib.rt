@@ -37,7 +37,7 @@ fn drawn_to(p: Spot, l: usize, end: usize, at: usize) -> Drawn
         width: x - v.x,
         height: l,
     };
-    let spot = moves::place(moves::marked(p, line), x, v.y);
+    let spot = p.marked(line).place(x, v.y);
     Drawn { spot, at }
 }
 
@@ -45,11 +45,7 @@ fn drawn_to(p: Spot, l: usize, end: usize, at: usize) -> Drawn
 fn goes_on(piece: &[u8], i: usize, to: usize, end: usize) -> bool
     ensures { result ≡ (leb 0x20 (get_or piece.now i 0) && leb to end) }
 {
-    if i < piece.len() {
-        let b = piece[i];
-        return (0x20 <= b) & (to <= end);
-    }
-    false
+    i < piece.len() && (0x20 <= piece[i]) & (to <= end)
 }
 
 // The whole cell of a code. Without downloads it is one test more, which a loop over characters makes before it begins.
@@ -65,8 +61,7 @@ fn draw_code(g: Module, mem: &mut [u8], font: &[u8], own: &[u8], code: u8, cell:
         cells::draw_whole(g, mem, cols, cell, r.left, r.top);
         return;
     }
-    let style = cell.style;
-    text_cells::draw_found(g, mem, font, own, code, cell.blanks, style, r);
+    text_cells::draw_found(g, mem, font, own, code, cell.blanks, cell.style, r);
 }
 
 // The characters that stand in the cursor's line with room for another after each.
@@ -96,6 +91,7 @@ pub fn line(
         height: cell.rows,
     };
     let mut i = from;
+    // the loop ends by one test of byte and room (docs/PROVING.md): a `for` would ask for the byte first
     while goes_on(piece, i, r.left + 2 * c, end) {
         draw_code(g, mem, font, own, piece[i], cell, r);
         r.left += c;

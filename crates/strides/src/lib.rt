@@ -21,7 +21,7 @@ use paper::{Module, Style, View};
 pub fn is_move(b: u8) -> bool
     ensures { result ≡ between 0x08 0x0D b }
 {
-    (0x08 <= b) & (b <= 0x0D)
+    (0x08..=0x0D).contains(&b)
 }
 
 // A move by its byte: BS, HT, LF, HOM, CLR, CR. The cell is c columns wide and l rows high.
@@ -54,11 +54,10 @@ pub fn in_range(v: View, p: Spot) -> Spot
     requires { Within v p.view }
     ensures { result ≡ p }
 {
-    let u = p.view;
     let view = View {
-        x: u.x,
-        y: u.y,
-        mode: u.mode,
+        x: p.view.x,
+        y: p.view.y,
+        mode: p.view.mode,
         ..v
     };
     Spot { view, ..p }
@@ -84,13 +83,14 @@ pub fn is_styling(piece: &[u8], i: usize) -> bool
 pub fn styled(style: Style, k: u8, n: u8) -> Style
     ensures { result ≡ styled_by style k n }
 {
-    let mut t = style;
     if k == 0x72 {
-        t.reverse = n;
-        return t;
+        Style {
+            reverse: n,
+            ..style
+        }
+    } else {
+        Style { mixing: n, ..style }
     }
-    t.mixing = n;
-    t
 }
 
 // ---- either
@@ -101,11 +101,5 @@ pub fn is_light(piece: &[u8], i: usize) -> bool
     ensures { result ≡ is_light piece.now i }
 {
     let b = piece[i];
-    if 0x20 <= b {
-        return true;
-    }
-    if is_move(b) {
-        return true;
-    }
-    is_styling(piece, i)
+    0x20 <= b || (is_move(b) || is_styling(piece, i))
 }

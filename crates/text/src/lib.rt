@@ -30,17 +30,14 @@ pub fn character(
         (character_of g (faces font.now own.now) cell.blanks cell.style code p.view) }
 {
     let v = p.view;
-    let x = v.x;
-    let width = v.width;
-    let mode = v.mode;
     let c = cell.columns;
-    if x + c <= width {
-        return text_tab::draw_tab(g, mem, font, own, p, cell, code);
+    if v.x + c <= v.width {
+        text_tab::draw_tab(g, mem, font, own, p, cell, code)
+    } else if v.mode == 3 {
+        let stepped = moves_tab::tab(g, mem, p, c, cell.rows);
+        text_tab::draw_tab(g, mem, font, own, stepped, cell, code)
+    } else {
+        let blanked = text_tab::blank_tab(g, mem, p, cell);
+        text_tab::draw_tab(g, mem, font, own, blanked, cell, code)
     }
-    if mode == 3 {
-        let q = moves_tab::tab(g, mem, p, c, cell.rows);
-        return text_tab::draw_tab(g, mem, font, own, q, cell, code);
-    }
-    let q = text_tab::blank_tab(g, mem, p, cell);
-    text_tab::draw_tab(g, mem, font, own, q, cell, code)
 }

@@ -30,12 +30,9 @@ pub fn draw_tab(
     ensures { Does g p.spans mem.old result mem.new
         (draw_tab g (faces font.now own.now) cell.blanks cell.style code p.view) }
 {
-    let v = p.view;
-    let style = cell.style;
-    let r = text_cells::inside(v, cell.columns, cell.rows);
-    text_cells::draw_code(g, mem, font, own, code, cell.blanks, style, r);
-    let q = moves::marked(p, r);
-    moves_tab::tab(g, mem, q, cell.columns, cell.rows)
+    let r = text_cells::inside(p.view, cell.columns, cell.rows);
+    text_cells::draw_code(g, mem, font, own, code, cell.blanks, cell.style, r);
+    moves_tab::tab(g, mem, p.marked(r), cell.columns, cell.rows)
 }
 
 // Draws an all-off cell at the cursor, then HT.
@@ -43,10 +40,7 @@ pub fn blank_tab(g: Module, mem: &mut [u8], p: Spot, cell: Cell) -> Spot
     requires { Usable g × (Room g p.view cell.columns cell.rows × (Drawable g cell × Fits g mem.old)) }
     ensures { Does g p.spans mem.old result mem.new (blank_tab g cell.blanks cell.style p.view) }
 {
-    let v = p.view;
-    let style = cell.style;
-    let r = text_cells::inside(v, cell.columns, cell.rows);
-    cells_bytes::blank(g, mem, style, r);
-    let q = moves::marked(p, r);
-    moves_tab::tab(g, mem, q, cell.columns, cell.rows)
+    let r = text_cells::inside(p.view, cell.columns, cell.rows);
+    cells_bytes::blank(g, mem, cell.style, r);
+    moves_tab::tab(g, mem, p.marked(r), cell.columns, cell.rows)
 }

@@ -8,7 +8,7 @@ unfolding line_down_up
 returns-then-room_below c =
     rw (← c.room_below.ensures, c.if-room_below.true) (does_only _ c.place.ensures)
 
-pub returns : goal.returns
+pub returns-else-room_below : goal.returns-else-room_below
 unfolding line_down_up
-returns c =
+returns-else-room_below c =
     rw (← c.room_below.ensures, c.if-room_below.false) c.scroll.ensures

@@ -7,7 +7,7 @@ unfolding next_line
 returns-then-room_below c =
     rw (← c.room_below.ensures, c.if-room_below.true) c.to.ensures
 
-pub returns : goal.returns
+pub returns-else-room_below : goal.returns-else-room_below
 unfolding next_line
-returns c =
-    rw (← c.room_below.ensures, c.if-room_below.false) c.to-2.ensures
+returns-else-room_below c =
+    rw (← c.room_below.ensures, c.if-room_below.false) c.to-else-room_below.ensures

@@ -6,22 +6,22 @@ use Rattle.paper.specs.Moves.{back_of}
 use Rattle.laws_memory.proofs.Tests.{and_1}
 use Rattle.moves_views.proofs.back.Goals as goal
 
-pub returns-then-c-x : goal.returns-then-c-x
+pub returns-then-c-v : goal.returns-then-c-v
 unfolding back_of
-returns-then-c-x c =
-    rw (le-leb _ _ c.if-c-x.true) c.to.ensures
+returns-then-c-v c =
+    rw (le-leb _ _ c.if-c-v.true) c.to.ensures
 
-pub overflow_sub-y : goal.overflow_sub-y
-overflow_sub-y c =
+pub overflow_sub-v-then-v-l-2 : goal.overflow_sub-v-then-v-l-2
+overflow_sub-v-then-v-l-2 c =
     let a = c.args in
-    leb→le _ _ (and_1 (not (eqb a.v.mode 3)) (leb a.l a.v.y) (rw c.if-mode-l.true tt))
+    leb→le _ _ (and_1 (not (eqb a.v.mode 3)) (leb a.l a.v.y) (rw c.if-v-l.true tt))
 
-pub returns-then-mode-l : goal.returns-then-mode-l
+pub returns-then-v-l : goal.returns-then-v-l
 unfolding back_of
-returns-then-mode-l c =
-    rw (lt-leb _ _ c.if-c-x.false, c.if-mode-l.true) c.to-then-mode-l.ensures
+returns-then-v-l c =
+    rw (lt-leb _ _ c.if-c-v.false, c.if-v-l.true) c.to-then-v-l.ensures
 
-pub returns : goal.returns
+pub returns-else-v-l : goal.returns-else-v-l
 unfolding back_of
-returns c =
-    rw (lt-leb _ _ c.if-c-x.false, c.if-mode-l.false)
+returns-else-v-l c =
+    rw (lt-leb _ _ c.if-c-v.false, c.if-v-l.false)

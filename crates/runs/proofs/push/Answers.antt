@@ -11,14 +11,14 @@ pub draw_code-requires : goal.draw_code-requires
 draw_code-requires c =
     rw c.inside-r.ensures (omega (arith, c.requires))
 
-pub marked-q-requires : goal.marked-q-requires
-marked-q-requires c =
+pub marked-requires : goal.marked-requires
+marked-requires c =
     rw c.inside-r.ensures (omega (arith, c.requires))
 
 pub push_left-requires : goal.push_left-requires
 push_left-requires c =
     let pre = c.requires in
-    rw c.marked-q.ensures (pre.usable.0, (pre.usable.1.0, (pre.mode_value.1, omega (arith, c.draw_code.auto.mem))))
+    rw c.marked.ensures (pre.usable.0, (pre.usable.1.0, (pre.mode_value.1, omega (arith, c.draw_code.auto.mem))))
 
 pub returns : goal.returns
 unfolding drawn_as
@@ -30,6 +30,6 @@ returns c =
     drawn_pushed a.g a.p.spans a.mem.now font a.cell.blanks a.cell.style a.code a.p.view f.0
     (rw size.columns at f.1) (rw size.columns at f.2)
     (does_stroke (draw_stroke a.g font a.cell.blanks a.cell.style a.code a.p.view) a.p.view
-    (rw (c.inside-r.ensures, size.columns, size.rows) at c.marked-q.ensures)
+    (rw (c.inside-r.ensures, size.columns, size.rows) at c.marked.ensures)
     (rw (c.inside-r.ensures, size.columns, size.rows) at c.draw_code.ensures))
     (rw (size.columns, size.rows) at c.push_left.ensures)

@@ -11,7 +11,7 @@ line-requires c =
     let v = c.args.p.view in
     let cell = c.args.cell in
     let k = c.requires.from_in_bounds in
-    record { usable = c.requires.usable; from_in_bounds = (k.0, k.1); columns_bound = room_after v.x cell.columns v.width v.y cell.rows v.height c.if-x-cell.true }
+    record { usable = c.requires.usable; from_in_bounds = (k.0, k.1); columns_bound = room_after v.x cell.columns v.width v.y cell.rows v.height c.if-v-cell.true }
 
 pub last-spot-requires : goal.last-spot-requires
 last-spot-requires c =
@@ -19,8 +19,8 @@ last-spot-requires c =
     let inked = pre.1.1.0 in
     (pre.0, (pre.1.0, (record { whole = inked.whole; has = c.requires.from_in_bounds.1; cell = inked.cell }, pre.1.1.1)))
 
-pub returns : goal.returns
-returns c =
+pub returns-else-v-cell : goal.returns-else-v-cell
+returns-else-v-cell c =
     let a = c.args in
     let font = faces a.font.now a.own.now in
     let w = a.cell.blanks in

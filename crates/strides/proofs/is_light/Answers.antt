@@ -12,9 +12,9 @@ returns-then-b-ge32 c =
 pub returns-then-is_move : goal.returns-then-is_move
 unfolding is_light
 returns-then-is_move c =
-    rw (lt-leb 0x20 _ c.if-b-ge32.false, sym c.is_move.ensures ∙ c.if-is_move.true)
+    rw (lt-leb 0x20 _ c.if-b-ge32.false, sym c.is_move.ensures ∙ c.if-is_move.true) c.if-is_move.true
 
-pub returns : goal.returns
+pub returns-else-is_move : goal.returns-else-is_move
 unfolding is_light
-returns c =
+returns-else-is_move c =
     rw (lt-leb 0x20 _ c.if-b-ge32.false, sym c.is_move.ensures ∙ c.if-is_move.false) c.is_styling.ensures

@@ -8,7 +8,7 @@ unfolding styled_by
 returns-then-k-eq114 c =
     rw (eq-eqb _ _ c.if-k-eq114.true)
 
-pub returns : goal.returns
+pub returns-else-k-eq114 : goal.returns-else-k-eq114
 unfolding styled_by
-returns c =
+returns-else-k-eq114 c =
     rw (ne_eqb _ _ c.if-k-eq114.false)

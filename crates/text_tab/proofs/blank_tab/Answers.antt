@@ -10,14 +10,14 @@ pub blank-requires : goal.blank-requires
 blank-requires c =
     rw c.inside-r.ensures (omega arith)
 
-pub marked-q-requires : goal.marked-q-requires
-marked-q-requires c =
+pub marked-requires : goal.marked-requires
+marked-requires c =
     rw c.inside-r.ensures (omega arith)
 
 pub tab-requires : goal.tab-requires
 tab-requires c =
     let pre = c.requires in
-    (pre.0, (rw c.marked-q.ensures pre.1.0, omega (arith, c.blank.auto.mem)))
+    (pre.0, (rw c.marked.ensures pre.1.0, omega (arith, c.blank.auto.mem)))
 
 pub returns : goal.returns
 unfolding blank_tab blanked
@@ -26,6 +26,6 @@ returns c =
     let size = c.requires.1.1.0 in
     does_after _ (λ q. ht_of a.g q (cell_width a.g a.cell.blanks a.cell.style) (cell_height a.cell.style))
     (does_stroke (blank_stroke a.g a.cell.blanks a.cell.style a.p.view) a.p.view
-    (rw (c.inside-r.ensures, size.columns, size.rows) at c.marked-q.ensures)
+    (rw (c.inside-r.ensures, size.columns, size.rows) at c.marked.ensures)
     (rw (c.inside-r.ensures, size.columns, size.rows) at c.blank.ensures))
     (rw (size.columns, size.rows) at c.tab.ensures)

@@ -1,6 +1,6 @@
--- `moves::place` meets its contract. Assumes nothing.
+-- `Spot::place` meets its contract. Assumes nothing.
 use Rattle.moves.proofs.Done.{spot-at}
-use Rattle.moves.proofs.place.Goals as goal
+use Rattle.moves.proofs.Spot.place.Goals as goal
 
 pub returns : goal.returns
 returns c =

@@ -1,6 +1,0 @@
--- `moves::marked` meets its contract. Assumes nothing.
-use Rattle.moves.proofs.marked.Goals as goal
-
-pub returns : goal.returns
-returns c =
-    rw c.mark.ensures
