@@ -5,6 +5,7 @@
 
 ghost use Rattle.std.specs.Prelude.{◌≡◌, true, List, ℕ};
 ghost use Rattle.paper.specs.Downloads.{faces};
+ghost use Rattle.paper.specs.Settings.{with_half};
 ghost use Rattle.paper.specs.Carry.{exceeds, take_of, take_store};
 ghost use Rattle.laws_bytes.specs.Readings.{reading_ok};
 ghost use Rattle.carry_dots.specs.Does.{Ready, Does};
@@ -12,6 +13,16 @@ ghost use Rattle.carry_command.specs.Heavy.{heavy};
 
 use carry_state::Done;
 use paper::{Half, Module, Outcome, Reading, State};
+
+// The state with nothing half read.
+fn all_read(s: State) -> State
+    ensures { result ≡ with_half s Half.Nothing }
+{
+    State {
+        half: Half::Nothing,
+        ..s
+    }
+}
 
 // What a byte gave to the half-read command, taken; no image's byte, and so the last arm is that of an unknown code. That a command
 // leaves nothing half read is said again behind it, where the ways of all commands meet.
@@ -22,41 +33,17 @@ pub fn take(g: Module, mem: &mut [u8], store: &mut [u8], s: State, r: Reading) -
         × (store.new ≡ take_store g (faces font store.old) s r) }
 {
     match r {
-        Reading::More(half) => carry_state::ends(State { half, ..s }, Outcome::Unfinished),
+        Reading::More(half) => Done::ends(State { half, ..s }, Outcome::Unfinished),
         Reading::Whole(c) => {
-            let t = State {
-                half: Half::Nothing,
-                ..s
-            };
-            let d = carry_command::carry_out(g, mem, store, t, c);
-            let u = d.state;
-            let outcome = d.outcome;
-            carry_state::ends(
-                State {
-                    half: Half::Nothing,
-                    ..u
-                },
-                outcome,
-            )
+            let d = carry_command::carry_out(g, mem, store, all_read(s), c);
+            Done::ends(all_read(d.state), d.outcome)
         }
         Reading::GlyphEnd {
             batch,
             dropped,
             columns,
         } => carry_store::glyph_end(store, s, batch, dropped, columns),
-        Reading::Cancels => {
-            let t = State {
-                half: Half::Nothing,
-                ..s
-            };
-            carry_state::ends(t, Outcome::Cancelled)
-        }
-        _ => {
-            let t = State {
-                half: Half::Nothing,
-                ..s
-            };
-            carry_state::ends(t, Outcome::Unknown)
-        }
+        Reading::Cancels => Done::ends(all_read(s), Outcome::Cancelled),
+        _ => Done::ends(all_read(s), Outcome::Unknown),
     }
 }

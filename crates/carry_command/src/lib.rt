@@ -21,13 +21,11 @@ pub fn carry_out(g: Module, mem: &mut [u8], store: &mut [u8], s: State, c: Comma
         Does g mem.old result mem.new (command_of g (faces font store.old) s c)
         × (store.new ≡ command_store g (faces font store.old) s c) }
 {
-    let h = s.hold;
-    let held = state::is_held(h);
+    let held = state::is_held(s.hold);
     match c {
-        Command::Character(_) => carry_state::ends(s, Outcome::TooLarge),
-        Command::Back => carry_state::ends(s, Outcome::TooLarge),
-        Command::Tab => carry_state::ends(s, Outcome::TooLarge),
-        Command::LineFeed => carry_state::ends(s, Outcome::TooLarge),
+        Command::Character(_) | Command::Back | Command::Tab | Command::LineFeed => {
+            Done::ends(s, Outcome::TooLarge)
+        }
         Command::Home => carry_state::home(g, s),
         Command::Clear => carry_dots::clear(g, mem, s),
         Command::Return => carry_state::carriage_return(g, s),
@@ -45,7 +43,7 @@ pub fn carry_out(g: Module, mem: &mut [u8], store: &mut [u8], s: State, c: Comma
             height,
         } => { carry_windows::define(g, s, held, a, left, top, width, height) }
         Command::Cancel(a) => carry_windows::cancel(g, s, held, a),
-        Command::Uncarried => carry_state::ends(s, Outcome::NotCarried),
+        Command::Uncarried => Done::ends(s, Outcome::NotCarried),
         Command::Erase { a, code } => carry_store::erase(g, store, s, held, a, code),
     }
 }

@@ -20,9 +20,11 @@ pub fn spot_of(g: Module, s: State) -> Spot
     requires { (s.selected ≤ 4) × (g.visible ≤ g.columns) }
     ensures { result ≡ spot (view_of g s) s.spans }
 {
-    let view = state_views::view_of(g, s);
     let spans = s.spans;
-    Spot { view, spans }
+    Spot {
+        view: state_views::view_of(g, s),
+        spans,
+    }
 }
 
 // The state after a move: the current window's cursor and the spans where the spot has them.
@@ -42,7 +44,7 @@ pub fn clear(g: Module, mem: &mut [u8], s: State) -> Done
 {
     let p = spot_of(g, s);
     let q = moves::clear(g, mem, p);
-    carry_state::ends(settle(s, q), Outcome::Carried)
+    Done::ends(settle(s, q), Outcome::Carried)
 }
 
 // Initialise: the initial state, all of memory zeroed, and every download erased.
@@ -53,11 +55,10 @@ pub fn initialise(g: Module, mem: &mut [u8], store: &mut [u8], s: State, held: b
         × (store.new ≡ command_store g (faces font store.old) s Command.Initialise) }
 {
     if held {
-        return carry_state::ends(s, Outcome::WindowHeld);
+        return Done::ends(s, Outcome::WindowHeld);
     }
-    let before = s.spans;
-    let spans = dots::erase(g, mem, before);
+    let spans = dots::erase(g, mem, s.spans);
     downloads_write::erase_all(store);
     let t = state::initial_state(g);
-    carry_state::ends(State { spans, ..t }, Outcome::Carried)
+    Done::ends(State { spans, ..t }, Outcome::Carried)
 }

@@ -1,6 +1,7 @@
 // Carrying out what changes a setting, with its answers 14, 15, 11 in their order.
 // It may use accept_settings for a setting's domain, state_settings for what becomes of the settings; it knows nothing of memory.
-// `held` says whether a window is held. Each contract says that the state and the outcome are those of the paper's meaning.
+// `held` says whether a window is held: it stays a parameter beside the state, from which carry_command reads it in one place.
+// Each contract says that the state and the outcome are those of the paper's meaning.
 #![tactic(auto)]
 
 ghost use Rattle.std.specs.Prelude.{◌≡◌, ◌≤◌};
@@ -17,17 +18,16 @@ pub fn set(g: Module, s: State, held: bool, key: Key, n: u8) -> Done
     ensures { (font : Faces) → Says result (command_of g font s (Command.Set key n)) }
 {
     if state_settings::not_carried_value(key, n) {
-        return carry_state::ends(s, Outcome::NotCarried);
+        return Done::ends(s, Outcome::NotCarried);
     }
     if state_settings::is_write(key) & held {
-        return carry_state::ends(s, Outcome::WindowHeld);
+        return Done::ends(s, Outcome::WindowHeld);
     }
     if accept_settings::in_domain(g, key, n) {
-        let v = s.settings;
-        let settings = state_settings::with_setting(v, key, n);
-        return carry_state::ends(State { settings, ..s }, Outcome::Carried);
+        let settings = state_settings::with_setting(s.settings, key, n);
+        return Done::ends(State { settings, ..s }, Outcome::Carried);
     }
-    carry_state::ends(s, Outcome::OutOfDomain)
+    Done::ends(s, Outcome::OutOfDomain)
 }
 
 // The enlargement.
@@ -36,9 +36,8 @@ pub fn enlarge(g: Module, s: State, x: u8, y: u8) -> Done
     ensures { (font : Faces) → Says result (command_of g font s (Command.Enlarge x y)) }
 {
     if accept_settings::in_enlargement(x, y) {
-        let v = s.settings;
-        let settings = state_settings::enlarge(v, x, y);
-        return carry_state::ends(State { settings, ..s }, Outcome::Carried);
+        let settings = state_settings::enlarge(s.settings, x, y);
+        return Done::ends(State { settings, ..s }, Outcome::Carried);
     }
-    carry_state::ends(s, Outcome::OutOfDomain)
+    Done::ends(s, Outcome::OutOfDomain)
 }

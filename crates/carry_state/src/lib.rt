@@ -22,11 +22,13 @@ pub struct Done {
     pub outcome: Outcome,
 }
 
-// A command answered so, with the state as it is then.
-pub fn ends(state: State, outcome: Outcome) -> Done
-    ensures { result ≡ done state outcome }
-{
-    Done { state, outcome }
+impl Done {
+    // A command answered so, with the state as it is then.
+    pub fn ends(state: State, outcome: Outcome) -> Done
+        ensures { result ≡ done state outcome }
+    {
+        Done { state, outcome }
+    }
 }
 
 // The cell that a character takes now, measured once for a command.
@@ -34,9 +36,7 @@ pub fn cell_now(g: Module, s: State) -> Cell
     requires { g.glyph ≤ 8 }
     ensures { result ≡ cell_of g s.settings.width s.settings.style }
 {
-    let v = s.settings;
-    let style = v.style;
-    glyphs::cell_of(g, v.width, style)
+    glyphs::cell_of(g, s.settings.width, s.settings.style)
 }
 
 // Whether a cell exceeds the range.
@@ -55,17 +55,17 @@ pub fn home(g: Module, s: State) -> Done
 {
     let view = state_views::view_of(g, s);
     let to = moves::to(view, 0, 0);
-    ends(state_views::with_view(s, to), Outcome::Carried)
+    Done::ends(state_views::with_view(s, to), Outcome::Carried)
 }
 
-// CR.
+// CR. HOM's twin but for the row: each is its two calls, and each contract names its own command.
 pub fn carriage_return(g: Module, s: State) -> Done
     requires { Usable g × (state_ok g s ≡ true) }
     ensures { (font : Faces) → Says result (command_of g font s Command.Return) }
 {
     let view = state_views::view_of(g, s);
     let to = moves::to(view, 0, view.y);
-    ends(state_views::with_view(s, to), Outcome::Carried)
+    Done::ends(state_views::with_view(s, to), Outcome::Carried)
 }
 
 // MD1, MD2, MD3.
@@ -73,7 +73,7 @@ pub fn mode(g: Module, s: State, n: u8) -> Done
     requires { s.selected ≤ 4 }
     ensures { (font : Faces) → Says result (command_of g font s (Command.Mode n)) }
 {
-    ends(state_views::in_mode(s, n), Outcome::Carried)
+    Done::ends(state_views::in_mode(s, n), Outcome::Carried)
 }
 
 // The cursor set.
@@ -83,10 +83,10 @@ pub fn set_cursor(g: Module, s: State, x: u16, y: u16) -> Done
 {
     if state_views::inside_window(g, s, x, y) {
         let c = state_views::cursor_of(s);
-        return ends(
+        return Done::ends(
             state_views::at_cursor(s, Cursor { x, y, ..c }),
             Outcome::Carried,
         );
     }
-    ends(s, Outcome::OutOfDomain)
+    Done::ends(s, Outcome::OutOfDomain)
 }

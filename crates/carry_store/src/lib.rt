@@ -19,24 +19,22 @@ pub fn glyph_end(store: &mut [u8], s: State, batch: Batch, noted: bool, columns:
     ensures { (g : Module) (font : List ℕ) →
         StoresReading g (faces font store.old) s (Reading.GlyphEnd batch noted columns) result store.new }
 {
-    let h = s.hold;
-    let held = state::is_held(h);
+    let held = state::is_held(s.hold);
     let code = batch.code;
     let dropped = downloads_answer::store_one(store, held, code, noted, columns);
     if code < batch.last {
-        let next = Batch {
-            code: code + 1,
-            ..batch
-        };
         let half = Half::GlyphWidth {
-            batch: next,
+            batch: Batch {
+                code: code + 1,
+                ..batch
+            },
             dropped,
         };
-        return carry_state::ends(State { half, ..s }, Outcome::Unfinished);
+        return Done::ends(State { half, ..s }, Outcome::Unfinished);
     }
     let half = Half::Nothing;
     let answer = downloads_answer::define_answer(held, dropped);
-    carry_state::ends(State { half, ..s }, answer)
+    Done::ends(State { half, ..s }, answer)
 }
 
 // Erase; `held` says whether a window is held.
@@ -46,5 +44,5 @@ pub fn erase(g: Module, store: &mut [u8], s: State, held: bool, a: u8, code: u8)
         StoresCommand g (faces font store.old) s (Command.Erase a code) result store.new }
 {
     let answer = downloads_answer::erase_one(store, held, a, code);
-    carry_state::ends(s, answer)
+    Done::ends(s, answer)
 }

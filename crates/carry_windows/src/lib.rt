@@ -1,6 +1,7 @@
 // Carrying out what selects, defines and cancels a window, with its answers 15, 11, 17 in their order.
 // It may use accept_windows for which window there is and what fits, state for the state's parts; it knows nothing of memory.
-// `held` says whether a window is held. Each contract says that the state and the outcome are those of the paper's meaning.
+// `held` says whether a window is held: it stays a parameter beside the state, from which carry_command reads it in one place.
+// Each contract says that the state and the outcome are those of the paper's meaning.
 #![tactic(auto)]
 
 ghost use Rattle.std.specs.Prelude.{◌≡◌, ◌≤◌};
@@ -17,16 +18,15 @@ pub fn select(g: Module, s: State, held: bool, k: u8) -> Done
     ensures { (font : Faces) → Says result (command_of g font s (Command.Select k)) }
 {
     if held {
-        return carry_state::ends(s, Outcome::WindowHeld);
+        return Done::ends(s, Outcome::WindowHeld);
     }
     if 4 < k {
-        return carry_state::ends(s, Outcome::OutOfDomain);
+        return Done::ends(s, Outcome::OutOfDomain);
     }
-    let windows = s.windows;
-    if accept_windows::selectable(windows, k) {
-        return carry_state::ends(State { selected: k, ..s }, Outcome::Carried);
+    if accept_windows::selectable(s.windows, k) {
+        return Done::ends(State { selected: k, ..s }, Outcome::Carried);
     }
-    carry_state::ends(s, Outcome::NotDefined)
+    Done::ends(s, Outcome::NotDefined)
 }
 
 // A user window defined.
@@ -44,15 +44,15 @@ pub fn define(
     ensures { (font : Faces) → Says result (command_of g font s (Command.Define a left top width height)) }
 {
     if held {
-        return carry_state::ends(s, Outcome::WindowHeld);
+        return Done::ends(s, Outcome::WindowHeld);
     }
     if accept_windows::fits(g, left, top, width, height) {
-        return carry_state::ends(
+        return Done::ends(
             state::define(s, a, left, top, width, height),
             Outcome::Carried,
         );
     }
-    carry_state::ends(s, Outcome::OutOfDomain)
+    Done::ends(s, Outcome::OutOfDomain)
 }
 
 // A user window cancelled.
@@ -61,7 +61,7 @@ pub fn cancel(g: Module, s: State, held: bool, a: u8) -> Done
     ensures { (font : Faces) → Says result (command_of g font s (Command.Cancel a)) }
 {
     if held {
-        return carry_state::ends(s, Outcome::WindowHeld);
+        return Done::ends(s, Outcome::WindowHeld);
     }
-    carry_state::ends(state::cancel(s, a), Outcome::Carried)
+    Done::ends(state::cancel(s, a), Outcome::Carried)
 }

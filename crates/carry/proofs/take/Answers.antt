@@ -1,5 +1,4 @@
 -- `carry::take` meets its contract: an arm for each reading. Assumes nothing.
-use borrow.Author.Rules.{rules}
 use mathlib.Core.Path.{refl}
 use Rattle.paper.specs.declared.Half.TheVariants.{Nothing}
 use Rattle.paper.specs.Downloads.{faces}
@@ -16,7 +15,8 @@ use Rattle.carry.proofs.take.Goals as goal
 pub carry_out-d-requires : goal.carry_out-d-requires
 unfolding reading_ok half_ok heavy view_of
 carry_out-d-requires c =
-    let told = c.in-Whole.is in (
+    let told = c.in-Whole.is in
+    rw c.all_read.ensures (
       ready_half c.args.g c.args.s c.args.mem.now Nothing refl c.requires.0,
       (rw told at c.requires.1.0, rw told at c.requires.1.1),
     )
@@ -30,8 +30,8 @@ pub returns-in-Whole : goal.returns-in-Whole
 unfolding take_of take_store
 returns-in-Whole c font =
     let a = c.args in
-    let d = c.carry_out-d.ensures font in
-    rw c.in-Whole.is (kept_half (faces font a.store.now) a.s _ d.0 c.ends-in-Whole.ensures, d.1)
+    let d = rw c.all_read.ensures at (c.carry_out-d.ensures font) in
+    rw c.in-Whole.is (kept_half (faces font a.store.now) a.s _ d.0 (rw c.all_read-in-Whole.ensures at c.ends-in-Whole.ensures), d.1)
 
 pub returns-in-GlyphEnd : goal.returns-in-GlyphEnd
 returns-in-GlyphEnd c font =
@@ -41,9 +41,9 @@ returns-in-GlyphEnd c font =
 pub returns-in-Cancels : goal.returns-in-Cancels
 unfolding take_of take_store
 returns-in-Cancels c font =
-    rw c.in-Cancels.is (does_answer c.ends-in-Cancels.ensures refl, refl)
+    rw c.in-Cancels.is (does_answer (rw c.all_read-in-Cancels.ensures at c.ends-in-Cancels.ensures) refl, refl)
 
 pub returns-in_default : goal.returns-in_default
 unfolding take_of take_store
 returns-in_default c font =
-    rw (is_unknown _ c.args.r c.requires.1.1 c.in_default.in_default-own.keys5) (does_answer c.ends-in_default.ensures refl, refl)
+    rw (is_unknown _ c.args.r c.requires.1.1 c.in_default.in_default-own.keys5) (does_answer (rw c.all_read-in_default.ensures at c.ends-in_default.ensures) refl, refl)

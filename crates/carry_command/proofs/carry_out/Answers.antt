@@ -1,17 +1,15 @@
 -- `carry_command::carry_out` meets its contract: an arm for each command. Assumes nothing.
-use borrow.Author.Rules.{rules}
 use mathlib.Core.Path.{refl}
-use Rattle.paper.specs.declared.Command.TheVariants.{Character, Back, Tab, LineFeed, Home, Clear, Return, Select, Mode, Set, Enlarge, CursorSet, Define, Cancel, Uncarried}
+use Rattle.paper.specs.declared.Command.TheVariants.{Home, Clear, Return, Select, Mode, Set, Enlarge, CursorSet, Define, Cancel, Uncarried}
 use Rattle.paper.specs.Numbers.{outcome_number}
 use Rattle.paper.specs.Downloads.{faces}
 use Rattle.paper.specs.Carry.{asks, leaves}
 use Rattle.laws_bytes.specs.Readings.{command_ok}
 use Rattle.laws_bytes.proofs.Tests.{between_facts}
-use Rattle.carry_state.proofs.Answers.{is_14, is_16}
+use Rattle.carry_state.proofs.Answers.{is_14}
 use Rattle.carry_state.proofs.Facts.{selected_small}
 use Rattle.carry_dots.proofs.Wrote.{does_quiet}
-use Rattle.carry_command.specs.Heavy.{is_cell}
-use Rattle.carry_command.proofs.Kept.{kept, kept_quiet, kept_answered}
+use Rattle.carry_command.proofs.Kept.{kept, kept_quiet, kept_answered, cell_large}
 use Rattle.carry_command.proofs.carry_out.Goals as goal
 
 -- ---- what each command asks
@@ -43,40 +41,9 @@ cancel-requires c =
 -- ---- what each command gives
 
 pub returns-in-Character : goal.returns-in-Character
-unfolding asks outcome_number is_cell
 returns-in-Character c font =
     let a = c.args in
-    let f = faces font a.store.now in
-    let told = c.in-Character.is in
-    let large = is_16 a.g f a.s (Character _) refl refl refl refl (rw told at c.requires.1.1) in
-    rw told (kept_answered f a.s (Character _) c.ends.ensures large refl)
-
-pub returns-in-Back : goal.returns-in-Back
-unfolding asks outcome_number is_cell
-returns-in-Back c font =
-    let a = c.args in
-    let f = faces font a.store.now in
-    let told = c.in-Back.is in
-    let large = is_16 a.g f a.s Back refl refl refl refl (rw told at c.requires.1.1) in
-    rw told (kept_answered f a.s Back c.ends-in-Back.ensures large refl)
-
-pub returns-in-Tab : goal.returns-in-Tab
-unfolding asks outcome_number is_cell
-returns-in-Tab c font =
-    let a = c.args in
-    let f = faces font a.store.now in
-    let told = c.in-Tab.is in
-    let large = is_16 a.g f a.s Tab refl refl refl refl (rw told at c.requires.1.1) in
-    rw told (kept_answered f a.s Tab c.ends-in-Tab.ensures large refl)
-
-pub returns-in-LineFeed : goal.returns-in-LineFeed
-unfolding asks outcome_number is_cell
-returns-in-LineFeed c font =
-    let a = c.args in
-    let f = faces font a.store.now in
-    let told = c.in-LineFeed.is in
-    let large = is_16 a.g f a.s LineFeed refl refl refl refl (rw told at c.requires.1.1) in
-    rw told (kept_answered f a.s LineFeed c.ends-in-LineFeed.ensures large refl)
+    cell_large (faces font a.store.now) a.s a.c c.in-Character.is c.requires.1.1 c.ends.ensures
 
 pub returns-in-Home : goal.returns-in-Home
 unfolding leaves

@@ -1,5 +1,4 @@
 -- `carry_dots::clear` meets its contract. Assumes nothing.
-use borrow.Author.Rules.{rules}
 use mathlib.Core.Path.{refl}
 use native.Mathlib.Omega.{arith}
 use Rattle.paper.specs.declared.Command.TheVariants.{Clear}
@@ -32,14 +31,6 @@ settle-requires c =
     settles c.args.g s c.args.mem.now (clear_of v) c.clear-q.result.view r
     (clear_kept v c.args.g (view-place c.args.g r.usable s r.state_is_ok))
     (rw c.spot_of-p.ensures at c.clear-q.ensures).view
-
-pub ends-requires : goal.ends-requires
-ends-requires c =
-    search rules
-
-pub shape_of-mem : goal.shape_of-mem
-shape_of-mem c =
-    search rules
 
 pub returns : goal.returns
 unfolding asks carried_out

@@ -1,5 +1,4 @@
 -- `carry_dots::initialise` meets its contract: 15 while held. Assumes nothing.
-use borrow.Author.Rules.{rules}
 use mathlib.Core.Path.{refl, sym, ◌∙◌}
 use Rattle.paper.specs.declared.Command.TheVariants.{Initialise}
 use Rattle.paper.specs.Numbers.{outcome_number}

@@ -1,13 +1,8 @@
 -- `carry_dots::settle` meets its contract. Assumes nothing.
-use borrow.Author.Rules.{rules}
 use Rattle.paper.specs.declared.State.{State}
 use Rattle.paper.specs.Settings.{with_spans}
 use mathlib.Core.Path.{ap}
 use Rattle.carry_dots.proofs.settle.Goals as goal
-
-pub with_view-t-requires : goal.with_view-t-requires
-with_view-t-requires c =
-    search rules
 
 pub returns : goal.returns
 returns c =

@@ -1,5 +1,4 @@
 -- `carry_settings::set` meets its contract: 14, then 15, then 11. Assumes nothing.
-use borrow.Author.Rules.{rules}
 use mathlib.Core.Path.{◌≡◌, refl, sym, ap, ap₂, ◌∙◌}
 use mathlib.Core.Bool.{false, not, ◌&&◌}
 use Rattle.paper.specs.declared.Command.TheVariants.{Set}
@@ -11,26 +10,10 @@ use Rattle.carry_settings.proofs.set.Goals as goal
 
 -- ---- what each way gives
 
-pub not_carried_value-requires : goal.not_carried_value-requires
-not_carried_value-requires c =
-    search rules
-
-pub ends-requires : goal.ends-requires
-ends-requires c =
-    search rules
-
 pub returns-then-not_carried_value : goal.returns-then-not_carried_value
 unfolding asks carried_out
 returns-then-not_carried_value c font =
     says c.ends.ensures (is_14 _ font _ (Set _ _) (sym c.not_carried_value.ensures ∙ c.if-not_carried_value.true))
-
-pub is_write-requires : goal.is_write-requires
-is_write-requires c =
-    search rules
-
-pub ends-requires-then-is_write-held : goal.ends-requires-then-is_write-held
-ends-requires-then-is_write-held c =
-    search rules
 
 pub returns-then-is_write-held : goal.returns-then-is_write-held
 unfolding asks carried_out
@@ -39,18 +22,6 @@ returns-then-is_write-held c font =
     says c.ends-then-is_write-held.ensures
     (is_15 _ font _ (Set _ _) is_carried
     (sym (ap₂ ◌&&◌ c.is_write.ensures c.requires) ∙ c.if-is_write-held.true))
-
-pub in_domain-requires : goal.in_domain-requires
-in_domain-requires c =
-    search rules
-
-pub with_setting-settings-requires : goal.with_setting-settings-requires
-with_setting-settings-requires c =
-    search rules
-
-pub ends-requires-then-in_domain : goal.ends-requires-then-in_domain
-ends-requires-then-in_domain c =
-    search rules
 
 pub returns-then-in_domain : goal.returns-then-in_domain
 unfolding asks carried_out
@@ -69,10 +40,6 @@ returns-then-in_domain c font =
       room = refl;
       stored = refl;
     }))
-
-pub ends-requires-2 : goal.ends-requires-2
-ends-requires-2 c =
-    search rules
 
 pub returns : goal.returns
 unfolding asks carried_out

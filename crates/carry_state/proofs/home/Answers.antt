@@ -1,12 +1,11 @@
 -- `carry_state::home` meets its contract. Assumes nothing.
-use borrow.Author.Rules.{rules}
 use mathlib.Core.Path.{refl, ap, ◌∙◌}
 use Rattle.paper.specs.declared.Command.TheVariants.{Home}
 use Rattle.paper.specs.Carry.{asks, carried_out}
 use Rattle.carry_state.proofs.Answers.{is_10, says, ends_at}
 use Rattle.paper.specs.declared.View.{View}
 use Rattle.paper.specs.Settings.{with_view, view_of}
-use Rattle.paper.specs.Moves.{only, to, home_of}
+use Rattle.paper.specs.Moves.{only, home_of}
 use Rattle.laws_state.proofs.Moves.{home_kept}
 use Rattle.laws_state.proofs.Views.{view-place}
 use Rattle.carry_state.proofs.Facts.{selected_small, place_small}
@@ -17,10 +16,6 @@ pub view_of-view-requires : goal.view_of-view-requires
 view_of-view-requires c =
     (selected_small c.args.g c.args.s c.requires.1, omega (arith, c.requires.0.visible_part))
 
-pub to-to-requires : goal.to-to-requires
-to-to-requires c =
-    search rules
-
 pub with_view-requires : goal.with_view-requires
 with_view-requires c =
     let i = view-place c.args.g c.requires.0 c.args.s c.requires.1 in
@@ -30,10 +25,6 @@ with_view-requires c =
       rw (c.to-to.ensures, c.view_of-view.ensures) p.0,
       rw (c.to-to.ensures, c.view_of-view.ensures) p.1,
     )
-
-pub ends-requires : goal.ends-requires
-ends-requires c =
-    search rules
 
 pub returns : goal.returns
 unfolding asks carried_out

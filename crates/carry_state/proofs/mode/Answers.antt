@@ -1,18 +1,9 @@
 -- `carry_state::mode` meets its contract. Assumes nothing.
-use borrow.Author.Rules.{rules}
 use mathlib.Core.Path.{refl}
 use Rattle.paper.specs.declared.Command.TheVariants.{Mode}
 use Rattle.paper.specs.Carry.{asks, carried_out}
 use Rattle.carry_state.proofs.Answers.{is_10, says, ends_at}
 use Rattle.carry_state.proofs.mode.Goals as goal
-
-pub in_mode-requires : goal.in_mode-requires
-in_mode-requires c =
-    search rules
-
-pub ends-requires : goal.ends-requires
-ends-requires c =
-    search rules
 
 pub returns : goal.returns
 unfolding asks carried_out

@@ -1,5 +1,4 @@
 -- `carry_state::set_cursor` meets its contract: 11 outside the window. Assumes nothing.
-use borrow.Author.Rules.{rules}
 use mathlib.Core.Path.{refl, sym, ap, ◌∙◌}
 use mathlib.Core.Bool.{not}
 use Rattle.paper.specs.declared.Command.TheVariants.{CursorSet}
@@ -8,22 +7,6 @@ use Rattle.carry_state.proofs.Answers.{is_11, is_10, says, ends_at}
 use Rattle.paper.specs.declared.Cursor.{Cursor}
 use Rattle.paper.specs.Settings.{at_cursor, cursor}
 use Rattle.carry_state.proofs.set_cursor.Goals as goal
-
-pub inside_window-requires : goal.inside_window-requires
-inside_window-requires c =
-    search rules
-
-pub cursor_of-c-requires : goal.cursor_of-c-requires
-cursor_of-c-requires c =
-    search rules
-
-pub at_cursor-requires : goal.at_cursor-requires
-at_cursor-requires c =
-    search rules
-
-pub ends-requires : goal.ends-requires
-ends-requires c =
-    search rules
 
 pub returns-then-inside_window : goal.returns-then-inside_window
 unfolding asks carried_out
@@ -41,10 +24,6 @@ returns-then-inside_window c font =
       room = refl;
       stored = refl;
     }))
-
-pub ends-requires-2 : goal.ends-requires-2
-ends-requires-2 c =
-    search rules
 
 pub returns : goal.returns
 unfolding asks carried_out

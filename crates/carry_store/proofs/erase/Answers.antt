@@ -1,5 +1,4 @@
 -- `carry_store::erase` meets its contract. Assumes nothing.
-use borrow.Author.Rules.{rules}
 use Rattle.paper.specs.Downloads.{faces}
 use Rattle.carry_store.proofs.Erased.{stores_erase}
 use Rattle.carry_store.proofs.erase.Goals as goal

@@ -1,5 +1,4 @@
 -- `glyph_end` meets its contract: the next code's width is awaited, or the define is answered. Assumes nothing.
-use borrow.Author.Rules.{rules}
 use mathlib.Core.Path.{ap, ap₂, ◌∙◌}
 use mathlib.Core.Bool.{Bool}
 use Rattle.paper.specs.declared.Half.TheVariants.{Nothing, GlyphWidth}
@@ -12,22 +11,6 @@ use Rattle.carry_state.proofs.Answers.{says, ends_at}
 use Rattle.downloads_answer.specs.Answers.{noted_if, answer_if, stored_if}
 use Rattle.carry_store.proofs.Stored.{goes_on, is_read}
 use Rattle.carry_store.proofs.glyph_end.Goals as goal
-
-pub is_held-held-requires : goal.is_held-held-requires
-is_held-held-requires c =
-    search rules
-
-pub store_one-dropped-requires : goal.store_one-dropped-requires
-store_one-dropped-requires c =
-    search rules
-
-pub ends-requires : goal.ends-requires
-ends-requires c =
-    search rules
-
-pub shape_of-store-then-code-batch : goal.shape_of-store-then-code-batch
-shape_of-store-then-code-batch c =
-    search rules
 
 pub returns-then-code-batch : goal.returns-then-code-batch
 unfolding take_of take_store
@@ -43,18 +26,6 @@ returns-then-code-batch c g font =
       store = c.store_one-dropped.ensures.1
           ∙ ap (λ (t : Bool). stored_if t ds a.batch.code a.columns) c.is_held-held.ensures;
     }
-
-pub define_answer-answer-requires : goal.define_answer-answer-requires
-define_answer-answer-requires c =
-    search rules
-
-pub ends-requires-2 : goal.ends-requires-2
-ends-requires-2 c =
-    search rules
-
-pub shape_of-store : goal.shape_of-store
-shape_of-store c =
-    search rules
 
 pub returns : goal.returns
 unfolding take_of take_store

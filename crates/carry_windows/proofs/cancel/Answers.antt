@@ -1,5 +1,4 @@
 -- `carry_windows::cancel` meets its contract: 15 while held. Assumes nothing.
-use borrow.Author.Rules.{rules}
 use mathlib.Core.Path.{refl, sym, ◌∙◌}
 use Rattle.paper.specs.declared.Command.TheVariants.{Cancel}
 use Rattle.paper.specs.Carry.{asks, carried_out}

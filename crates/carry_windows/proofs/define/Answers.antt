@@ -1,5 +1,4 @@
 -- `carry_windows::define` meets its contract: 15 while held, then 11. Assumes nothing.
-use borrow.Author.Rules.{rules}
 use mathlib.Core.Path.{refl, sym, ap, ◌∙◌}
 use mathlib.Core.Bool.{not}
 use Rattle.paper.specs.declared.Command.TheVariants.{Define}

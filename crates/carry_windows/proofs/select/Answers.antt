@@ -1,5 +1,4 @@
 -- `carry_windows::select` meets its contract: 15 while held, then 11, then 17. Assumes nothing.
-use borrow.Author.Rules.{rules}
 use mathlib.Core.Path.{refl, sym, ap, ◌∙◌}
 use mathlib.Core.Bool.{not}
 use borrow.Author.Tests.{lt-ltb, le-ltb}
