@@ -10,7 +10,7 @@ ghost use Rattle.laws_state.specs.Told.{refreshed};
 
 use paper::{Module, Refreshed, Refusal, State};
 
-// A refresh answered so.
+// A refresh answered so. Refreshed is the paper's: a refused call hands the state back too (document 01), so it is no Result.
 fn moves(refusal: Refusal, state: State, moved: usize) -> Refreshed
     ensures { result ≡ (refreshing refusal state moved []).answer }
 {

@@ -9,21 +9,19 @@ ghost use Rattle.paper.specs.Calls.{answer, hold_call, release_call};
 
 use paper::{Answer, Module, Refusal, State};
 
-// A call answered so.
+// A call answered so. Answer is the paper's: a refused call hands the state back too (document 01), so it is no Result.
 fn answers(refusal: Refusal, state: State) -> Answer
     ensures { result ≡ answer refusal state }
 {
     Answer { refusal, state }
 }
 
-// Whether user window k is defined.
+// Whether user window k is defined. accept_windows has the like within: one more use between crates for one comparison is no plainer.
 fn is_defined(s: State, k: usize) -> bool
     requires { (1 ≤ k) × (k ≤ 4) }
     ensures { result ≡ is_defined (window_at s.windows k) }
 {
-    let i = k - 1;
-    let w = s.windows[i];
-    0 < w.width
+    0 < s.windows[k - 1].width
 }
 
 // Holds user window k. 8: the state breaks a bound; 6: a window is held; 4: k is not 1 to 4; 5: window k is not defined.
@@ -33,11 +31,10 @@ pub fn hold(g: Module, store: &[u8], s: State, k: usize) -> Answer
     if !accept::is_accepted(g, s, store) {
         return answers(Refusal::BrokenState, s);
     }
-    let h = s.hold;
-    if state::is_held(h) {
+    if state::is_held(s.hold) {
         return answers(Refusal::HeldAlready, s);
     }
-    if !((1 <= k) & (k <= 4)) {
+    if !(1..=4).contains(&k) {
         return answers(Refusal::NoSuchWindow, s);
     }
     if is_defined(s, k) {
@@ -53,9 +50,8 @@ pub fn release(g: Module, store: &[u8], s: State) -> Answer
     if !accept::is_accepted(g, s, store) {
         return answers(Refusal::BrokenState, s);
     }
-    let h = s.hold;
-    if state::is_held(h) {
-        return answers(Refusal::Accepted, state_held::put_back(s, h));
+    if state::is_held(s.hold) {
+        return answers(Refusal::Accepted, state_held::put_back(s, s.hold));
     }
     answers(Refusal::NotHeld, s)
 }

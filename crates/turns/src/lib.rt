@@ -44,7 +44,7 @@ fn feed_some(
     }
 }
 
-// An answer that has fed nothing: a refusal, or the beginning of a piece.
+// An answer that has fed nothing: a refusal, or the beginning of a piece. Fed is the paper's, so this is no function of it.
 pub fn fed_nothing(refusal: Refusal, state: State) -> Fed
     ensures { result ≡ (fed_nothing refusal state [] []).answer }
 {
@@ -72,6 +72,7 @@ pub fn feed_all(
 {
     let mut f = fed_nothing(Refusal::Accepted, state_apart::apart(s));
     let mut i = 0;
+    // a turn takes any number of bytes, so no `for` can count it
     while i < piece.len() {
         let t = feed_some(g, mem, store, font, piece, f, i);
         f = t.fed;

@@ -25,21 +25,15 @@ pub fn feed_command(
     ensures { Turned g font.now f mem.old store.old piece.now i
         result mem.new store.new }
 {
-    let before = f.state;
-    let half = before.half;
-    let r = turns_gather::gather(g, half, piece, i);
-    let reading = r.reading;
-    let at = r.at;
-    let d = carry::take(g, mem, store, before, reading);
-    let state = d.state;
+    let r = turns_gather::gather(g, f.state.half, piece, i);
+    let d = carry::take(g, mem, store, f.state, r.reading);
     let outcome = d.outcome;
-    let refusal = f.refusal;
     let fed = Fed {
-        refusal,
-        state,
+        state: d.state,
         carried: f.carried + numbers::carried_by(outcome),
         answered: f.answered + numbers::answered_by(outcome),
         outcome,
+        ..f
     };
-    Turn { fed, at }
+    Turn { fed, at: r.at }
 }

@@ -28,24 +28,24 @@ pub fn gather(g: Module, half: Half, piece: &[u8], from: usize) -> Gathered
         × (heavy (light_start half piece.now from) result.reading ≡ true) }
 {
     let mut h = half;
-    let mut i = from;
-    while i < piece.len() {
+    for i in from..piece.len() {
         let r = reading::read(g, h, piece[i]);
-        i += 1;
-        match r {
-            Reading::More(next) => {
-                if turns_half::is_image(next) {
-                    return Gathered { reading: r, at: i };
-                }
-                h = next;
-            }
-            _ => {
-                return Gathered { reading: r, at: i };
-            }
+        let Reading::More(next) = r else {
+            return Gathered {
+                reading: r,
+                at: i + 1,
+            };
+        };
+        if turns_half::is_image(next) {
+            return Gathered {
+                reading: r,
+                at: i + 1,
+            };
         }
+        h = next;
     }
     Gathered {
         reading: Reading::More(h),
-        at: i,
+        at: piece.len(),
     }
 }

@@ -11,8 +11,5 @@ use paper::Half;
 pub fn is_image(half: Half) -> bool
     ensures { result ≡ is_image half }
 {
-    match half {
-        Half::ImageData { .. } => true,
-        _ => false,
-    }
+    matches!(half, Half::ImageData { .. })
 }

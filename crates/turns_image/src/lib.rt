@@ -27,9 +27,7 @@ pub fn feed_image(
 {
     let s = f.state;
     let p = carry_dots::spot_of(g, s);
-    let v = s.settings;
-    let refusal = f.refusal;
-    let style = v.style;
+    let style = s.settings.style;
     let r = runs_images::image_bytes(g, mem, p, style, width, height, column, row, piece, i);
     let at = r.at;
     let spans = r.spans;
@@ -40,11 +38,10 @@ pub fn feed_image(
             ..s
         };
         let fed = Fed {
-            refusal,
             state,
             carried: f.carried + 1,
-            answered: f.answered,
             outcome: Outcome::Carried,
+            ..f
         };
         return Turn { fed, at };
     }
@@ -56,11 +53,9 @@ pub fn feed_image(
     };
     let state = State { half, spans, ..s };
     let fed = Fed {
-        refusal,
         state,
-        carried: f.carried,
-        answered: f.answered,
         outcome: Outcome::Unfinished,
+        ..f
     };
     Turn { fed, at }
 }

@@ -20,10 +20,7 @@ pub struct Turn {
 fn is_nothing(half: Half) -> bool
     ensures { result ≡ is_nothing half }
 {
-    match half {
-        Half::Nothing => true,
-        _ => false,
-    }
+    matches!(half, Half::Nothing)
 }
 
 // Whether what stands at i is carried out without a state: nothing is half read, and a cell has room.
@@ -31,13 +28,10 @@ pub fn is_light(g: Module, s: State, piece: &[u8], i: usize) -> bool
     requires { (s.selected ≤ 4) × (g.visible ≤ g.columns) × (g.glyph ≤ 8) × (i < length piece.now) }
     ensures { result ≡ light_at g s piece.now i }
 {
-    let half = s.half;
-    if !is_nothing(half) {
-        return false;
-    }
-    if strides::is_light(piece, i) {
-        let p = carry_dots::spot_of(g, s);
-        return !carry_state::is_too_large(p.view, carry_state::cell_now(g, s));
-    }
-    false
+    is_nothing(s.half)
+        && (strides::is_light(piece, i)
+            && !carry_state::is_too_large(
+                carry_dots::spot_of(g, s).view,
+                carry_state::cell_now(g, s),
+            ))
 }

@@ -17,17 +17,16 @@ fn settled(f: Fed, p: Spot, style: Style, carried: usize, outcome: Outcome, at: 
     ensures { result ≡ turned_to f.refusal (on_desk f.state style p) carried f.answered outcome at }
 {
     let s = f.state;
-    let v = s.settings;
-    let settings = Settings { style, ..v };
-    let t = State { settings, ..s };
-    let state = carry_dots::settle(t, p);
-    let refusal = f.refusal;
+    let settings = Settings {
+        style,
+        ..s.settings
+    };
+    let state = carry_dots::settle(State { settings, ..s }, p);
     let fed = Fed {
-        refusal,
         state,
         carried,
-        answered: f.answered,
         outcome,
+        ..f
     };
     Turn { fed, at }
 }
@@ -57,6 +56,7 @@ pub fn feed_light(
     let mut carried = f.carried;
     let mut outcome = f.outcome;
     let mut i = from;
+    // a turn takes a run of any length, a byte or three, so no `for` can count it
     while i < piece.len() {
         if !strides::is_light(piece, i) {
             return settled(f, p, style, carried, outcome, i);

@@ -3,7 +3,6 @@ use borrow.Author.Rules.{rules}
 use mathlib.Core.Path.{◌≡◌, sym, ap, ◌∙◌}
 use mathlib.Core.Bool.{true, false}
 use native.Mathlib.Omega.{arith}
-use borrow.Author.Tests.{not-true, not-false}
 use Rattle.paper.specs.declared.Refusal.TheVariants.{Accepted}
 use Rattle.paper.specs.declared.State.{State}
 use Rattle.paper.specs.Reading.{between}
@@ -13,6 +12,21 @@ use Rattle.paper.specs.Calls.{answer}
 use Rattle.laws_bytes.proofs.Tests.{between_facts}
 use Rattle.calls_hold.proofs.Holds.{hold_broken, hold_held, hold_number_lem, hold_undefined, hold_accepted}
 use Rattle.calls_hold.proofs.hold.Goals as goal
+use Rattle.calls_hold.proofs.hold.Goals.{Else-not-is_accepted, Else-is_held, Else-not-contains}
+
+-- ---- what the tests say, each where it has let through
+
+ok : (c : Else-not-is_accepted) → let a = c.args in accepted a.g a.s a.store.now ≡ true
+ok c =
+    sym c.is_accepted.ensures ∙ c.if-not-is_accepted.false
+
+free : (c : Else-is_held) → is_held c.args.s.hold ≡ false
+free c =
+    sym c.is_held.ensures ∙ c.if-is_held.false
+
+one : (c : Else-not-contains) → between 1 4 c.args.k ≡ true
+one c =
+    let inside : c.contains.result ≡ between 1 4 c.args.k = search rules in sym inside ∙ c.if-not-contains.false
 
 -- ---- what each way gives
 
@@ -24,45 +38,38 @@ returns-then-not-is_accepted c =
 
 pub returns-then-is_held : goal.returns-then-is_held
 returns-then-is_held c =
-    let ok : let a = c.args in accepted a.g a.s a.store.now ≡ true = sym c.is_accepted.ensures ∙ c.if-not-is_accepted.false in
     let a = c.args in
     c.answers-then-is_held.ensures
-    ∙ hold_held a.g a.s a.store.now a.k ok (sym c.is_held.ensures ∙ c.if-is_held.true)
+    ∙ hold_held a.g a.s a.store.now a.k (ok (goal.at.returns-then-is_held c).Else-not-is_accepted) (sym c.is_held.ensures ∙ c.if-is_held.true)
 
-pub returns-then-not-k : goal.returns-then-not-k
-returns-then-not-k c =
-    let ok : let a = c.args in accepted a.g a.s a.store.now ≡ true = sym c.is_accepted.ensures ∙ c.if-not-is_accepted.false in
-    let free : let a = c.args in is_held a.s.hold ≡ false = sym c.is_held.ensures ∙ c.if-is_held.false in
+pub returns-then-not-contains : goal.returns-then-not-contains
+returns-then-not-contains c =
     let a = c.args in
-    c.answers-then-not-k.ensures
-    ∙ hold_number_lem a.g a.s a.store.now a.k ok free c.if-not-k.true
+    let p = goal.at.returns-then-not-contains c in
+    let inside : c.contains.result ≡ between 1 4 a.k = search rules in
+    c.answers-then-not-contains.ensures
+    ∙ hold_number_lem a.g a.s a.store.now a.k (ok p.Else-not-is_accepted) (free p.Else-is_held) (sym inside ∙ c.if-not-contains.true)
 
 pub is_defined-requires : goal.is_defined-requires
 is_defined-requires c =
-    let one : let a = c.args in between 1 4 a.k ≡ true = c.if-not-k.false in
-    between_facts 1 4 c.args.k one
+    between_facts 1 4 c.args.k (one (goal.at.is_defined-requires c).Else-not-contains)
 
 pub overflow_cast-k : goal.overflow_cast-k
 overflow_cast-k c =
-    let one : let a = c.args in between 1 4 a.k ≡ true = c.if-not-k.false in
-    omega (arith, between_facts 1 4 c.args.k one)
+    omega (arith, between_facts 1 4 c.args.k (one (goal.at.overflow_cast-k c).Else-not-contains))
 
 pub returns-then-is_defined : goal.returns-then-is_defined
 returns-then-is_defined c =
-    let ok : let a = c.args in accepted a.g a.s a.store.now ≡ true = sym c.is_accepted.ensures ∙ c.if-not-is_accepted.false in
-    let free : let a = c.args in is_held a.s.hold ≡ false = sym c.is_held.ensures ∙ c.if-is_held.false in
-    let one : let a = c.args in between 1 4 a.k ≡ true = c.if-not-k.false in
     let a = c.args in
+    let p = goal.at.returns-then-is_defined c in
     c.answers-then-is_defined.ensures ∙ ap (λ (t : State). answer Accepted t) c.held_by.ensures
-    ∙ hold_accepted a.g a.s a.store.now a.k ok free one
+    ∙ hold_accepted a.g a.s a.store.now a.k (ok p.Else-not-is_accepted) (free p.Else-is_held) (one p.Else-not-contains)
     (sym c.is_defined.ensures ∙ c.if-is_defined.true)
 
 pub returns : goal.returns
 returns c =
-    let ok : let a = c.args in accepted a.g a.s a.store.now ≡ true = sym c.is_accepted.ensures ∙ c.if-not-is_accepted.false in
-    let free : let a = c.args in is_held a.s.hold ≡ false = sym c.is_held.ensures ∙ c.if-is_held.false in
-    let one : let a = c.args in between 1 4 a.k ≡ true = c.if-not-k.false in
     let a = c.args in
+    let p = goal.at.returns c in
     c.answers-2.ensures
-    ∙ hold_undefined a.g a.s a.store.now a.k ok free one
+    ∙ hold_undefined a.g a.s a.store.now a.k (ok p.Else-not-is_accepted) (free p.Else-is_held) (one p.Else-not-contains)
     (sym c.is_defined.ensures ∙ c.if-is_defined.false)

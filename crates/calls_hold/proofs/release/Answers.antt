@@ -1,8 +1,6 @@
 -- `calls_hold::release` meets its contract: 8, 7 in this order. Assumes nothing.
-use borrow.Author.Rules.{rules}
 use mathlib.Core.Path.{◌≡◌, sym, ap, ◌∙◌}
 use mathlib.Core.Bool.{true}
-use borrow.Author.Tests.{not-true, not-false}
 use Rattle.paper.specs.declared.Refusal.TheVariants.{Accepted}
 use Rattle.paper.specs.declared.State.{State}
 use Rattle.paper.specs.Bounds.{accepted}

@@ -1,5 +1,4 @@
 -- `turns_command::feed_command` meets its contract: bytes gathered and then taken come to what they come to one by one. Assumes nothing.
-use borrow.Author.Rules.{rules}
 use Prim.Native.Nat.{◌-◌}
 use native.Mathlib.Omega.{arith}
 use Rattle.laws_bytes.specs.Readings.{reading_ok}

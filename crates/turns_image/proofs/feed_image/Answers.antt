@@ -1,5 +1,4 @@
 -- `turns_image::feed_image` meets its contract: the run comes to what its bytes come to one by one. Assumes nothing.
-use borrow.Author.Rules.{rules}
 use borrow.Author.Tests.{eq-eqb, ne_eqb}
 use native.Mathlib.Omega.{arith}
 use Rattle.carry_state.proofs.Facts.{selected_small}

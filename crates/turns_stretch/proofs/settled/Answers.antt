@@ -1,5 +1,4 @@
 -- `turns_stretch::settled` meets its contract. Assumes nothing.
-use borrow.Author.Rules.{rules}
 use mathlib.Core.Path.{ap}
 use Rattle.paper.specs.declared.State.{State}
 use Rattle.turns_stretch.specs.Desk.{turned_to}
