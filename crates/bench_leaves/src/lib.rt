@@ -3,43 +3,40 @@
 // asks and does nothing if that does not hold. It is no part of the panel.
 #![tactic(auto)]
 
-ghost use Rattle.laws_memory.specs.Rectangles.{Within};
+ghost use Rattle.std.specs.Prelude.{IfSome};
+ghost use Rattle.paper.specs.Panel.{panel};
+ghost use Rattle.laws_memory.specs.Rectangles.{Within, Fits};
 
-use paper::{Module, Rect, Span, Style};
+use paper::{Rect, Span, Style};
 
-// The rectangle, or none of it if it leaves the memory.
-fn rect_in(g: Module, left: u16, top: u16, width: u16, height: u16) -> Rect
-    ensures { Within g result }
+// The rectangle, if it lies in the module's memory and that is all of the bytes.
+fn rect_in(mem: &[u8], left: u16, top: u16, width: u16, height: u16) -> Option<Rect>
+    ensures { IfSome result (λ r. Within panel r × Fits panel mem.now) }
 {
-    let l = left as usize;
-    let t = top as usize;
-    let w = width as usize;
-    let h = height as usize;
-    if (g.columns < l + w) | (g.rows < t + h) {
-        return Rect {
-            left: 0,
-            top: 0,
-            width: 0,
-            height: 0,
-        };
+    let g = modules::small();
+    let r = Rect {
+        left: usize::from(left),
+        top: usize::from(top),
+        width: usize::from(width),
+        height: usize::from(height),
+    };
+    if mem.len() != modules::memory_length(g)
+        || g.columns < r.left + r.width
+        || g.rows < r.top + r.height
+    {
+        return None;
     }
-    Rect {
-        left: l,
-        top: t,
-        width: w,
-        height: h,
-    }
+    Some(r)
 }
+
+// bench/leaves.c calls what follows by name and by argument, so a rectangle is four numbers there.
 
 // Zeroes a rectangle.
 #[unsafe(no_mangle)]
 pub extern "C" fn leaf_clear(mem: &mut [u8], left: u16, top: u16, width: u16, height: u16) {
-    let g = modules::small();
-    let r = rect_in(g, left, top, width, height);
-    if mem.len() != modules::memory_length(g) {
-        return;
+    if let Some(r) = rect_in(mem, left, top, width, height) {
+        dots::clear(modules::small(), mem, r);
     }
-    dots::clear(g, mem, r);
 }
 
 // Scrolls a rectangle up.
@@ -52,12 +49,9 @@ pub extern "C" fn leaf_scroll_up(
     height: u16,
     lines: u16,
 ) {
-    let g = modules::small();
-    let r = rect_in(g, left, top, width, height);
-    if mem.len() != modules::memory_length(g) {
-        return;
+    if let Some(r) = rect_in(mem, left, top, width, height) {
+        dots_shift::scroll_up(modules::small(), mem, r, usize::from(lines));
     }
-    dots_shift::scroll_up(g, mem, r, lines as usize);
 }
 
 // Moves a rectangle's columns left.
@@ -70,12 +64,9 @@ pub extern "C" fn leaf_move_left(
     height: u16,
     n: u16,
 ) {
-    let g = modules::small();
-    let r = rect_in(g, left, top, width, height);
-    if mem.len() != modules::memory_length(g) {
-        return;
+    if let Some(r) = rect_in(mem, left, top, width, height) {
+        dots_shift::move_left(modules::small(), mem, r, usize::from(n));
     }
-    dots_shift::move_left(g, mem, r, n as usize);
 }
 
 // Draws a code's cell at (left, top), enlarged, reversed and mixed as the four numbers say.
@@ -94,23 +85,13 @@ pub extern "C" fn leaf_draw(
     down: u8,
 ) {
     let g = modules::small();
-    let r = rect_in(g, left, top, width, height);
-    if mem.len() != modules::memory_length(g) {
+    let Some(r) = rect_in(mem, left, top, width, height) else {
+        return;
+    };
+    if font.len() != modules::font_length(g) || code < 0x20 {
         return;
     }
-    if font.len() != modules::font_length(g) {
-        return;
-    }
-    if code < 0x20 {
-        return;
-    }
-    if across < 1 {
-        return;
-    }
-    if 2 < down {
-        return;
-    }
-    if (down as usize) < r.height {
+    if across < 1 || 2 < down || usize::from(down) < r.height {
         return;
     }
     let style = Style {
@@ -127,10 +108,7 @@ pub extern "C" fn leaf_draw(
 #[unsafe(no_mangle)]
 pub extern "C" fn leaf_refresh(mem: &[u8], glass: &mut [u8], first: u16, end: u16) -> usize {
     let g = modules::small();
-    if mem.len() != modules::memory_length(g) {
-        return 0;
-    }
-    if glass.len() != modules::glass_length(g) {
+    if mem.len() != modules::memory_length(g) || glass.len() != modules::glass_length(g) {
         return 0;
     }
     let p = Span { first, end };

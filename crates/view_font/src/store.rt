@@ -1,44 +1,59 @@
-// The pictures that were read: a place for each code 20h to FFh and one for all others, six bytes each: five columns, and
-// whether the place has its picture.
-ghost use Rattle.std.specs.Prelude.{◌≡◌, ◌<◌, length};
+// The pictures that were read: a place for each code 20h to FFh, and the last for all codes that have none.
+ghost use Rattle.std.specs.Prelude.{◌≤◌};
 
-pub const OTHERS: usize = 224;
+use std::array;
 
-pub const PLACES: usize = 225;
+// How many codes there are.
+const CODES: usize = 224;
 
-// Whether a place has its picture.
-pub fn has(store: &[u8], place: usize) -> bool
-    requires { (place < 225) × (length store.now ≡ 1350) }
-{
-    store[6 * place + 5] == 1
+// A picture's place.
+#[derive(Clone, Copy)]
+pub struct Place {
+    at: usize,
+    ghost in_store: { at ≤ 224 },
 }
 
-// Puts a picture into its place.
-pub fn put(store: &mut [u8], place: usize, dots: &[u8])
-    requires { (place < 225) × (length store.old ≡ 1350) × (length dots.now ≡ 35) }
-{
-    for k in 0..5usize {
-        store[6 * place + k] = view_glyph::column(dots, k);
+impl Place {
+    // The place for all codes that have no picture.
+    pub fn of_others() -> Place {
+        Place { at: CODES }
     }
-    store[6 * place + 5] = 1;
-}
 
-// Byte i of the font: column i % 5 of code 20h + i / 5, or of the picture for all others.
-fn byte_of(store: &[u8], i: usize) -> u8
-    requires { (i < 1120) × (length store.now ≡ 1350) }
-{
-    let place = i / 5;
-    if has(store, place) {
-        return store[6 * place + i % 5];
+    // The place of a code, if it is 20h at least.
+    pub fn of_code(code: u8) -> Option<Place> {
+        let at = usize::from(code.checked_sub(0x20)?);
+        Some(Place { at })
     }
-    store[6 * OTHERS + i % 5]
 }
 
-// The font's 1,120 bytes.
-pub fn font_of(store: &[u8], font: &mut [u8])
-    requires { (length font.old ≡ 1120) × (length store.now ≡ 1350) }
-{
-    for i in 0..font.len() {
-        font[i] = byte_of(store, i);
+// The columns of each place's picture, where it was read.
+#[derive(Drop)]
+pub struct Store {
+    pictures: [Option<[u8; 5]>; CODES + 1],
+}
+
+impl Store {
+    // No picture was read.
+    pub fn new() -> Store {
+        Store {
+            pictures: [None; CODES + 1],
+        }
+    }
+
+    // Whether a place has its picture.
+    pub fn has(&self, place: Place) -> bool {
+        self.pictures[place.at].is_some()
+    }
+
+    // Puts a picture into its place.
+    pub fn put(&mut self, place: Place, dots: &[[u8; 5]; 7]) {
+        let dots = dots.as_flattened();
+        self.pictures[place.at] = Some(array::from_fn(|k| view_glyph::column(dots, k)));
+    }
+
+    // The font: each code's columns, or those of the picture for all others.
+    pub fn font(&self) -> [[u8; 5]; CODES] {
+        let others = self.pictures[CODES].unwrap_or_default();
+        array::from_fn(|i| self.pictures[i].unwrap_or(others))
     }
 }

@@ -1,6 +1,5 @@
 -- `bench_leaves::leaf_refresh` meets its contract: its leaf has what it asks. Assumes nothing.
-use borrow.Author.Rules.{rules}
-use mathlib.Core.Path.{◌∙◌}
+use Rattle.std.proofs.Common.{◌∙◌}
 use Rattle.bench_leaves.proofs.Leaves.{memory_small, glass_small, two_rows, all-visible, fits}
 use Rattle.bench_leaves.proofs.leaf_refresh.Goals as goal
 

@@ -1,12 +1,15 @@
 -- `bench_leaves::rect_in` meets its contract, by its tests. Assumes nothing.
-use borrow.Author.Rules.{rules}
-use native.Mathlib.Omega.{arith}
-use lib.Dec.{ltb}
-use borrow.Author.Tests.{ltb-false}
-use Rattle.laws_state.proofs.Tests.{neither}
+use Rattle.std.proofs.Common.{arith}
+use Rattle.bench_leaves.proofs.Leaves.{memory_small, fits}
 use Rattle.bench_leaves.proofs.rect_in.Goals as goal
+
+pub memory_length-requires : goal.memory_length-requires
+memory_length-requires c =
+    memory_small _ c.small-g.ensures
 
 pub returns : goal.returns
 returns c =
-    let f = neither _ _ c.if-g-l.false in
-    record { across = ltb-false _ _ f.0; down = ltb-false _ _ f.1 }
+    rw (← c.small-g.ensures) (
+      record { across = omega arith; down = omega arith },
+      fits _ c.small-g.ensures _ _ c.if-mem-memory_length.false c.memory_length.ensures,
+    )

@@ -1,22 +1,28 @@
 -- `view_glyph::column` is safe and gives the font's byte of a picture's column.
-use borrow.Author.Rules.{rules}
-use native.Mathlib.Nat.{add-zero, zero-add}
-use mathlib.Core.Path.{sym}
+use Rattle.std.proofs.Common.{◌≡◌, ◌+◌, ◌<◌, refl, ap, ◌∙◌, arith}
 use Rattle.paper.specs.Panel.{byte_of}
 use Rattle.view_glyph.specs.Glyph.{column_of}
+use Rattle.view_glyph.proofs.Rows.{dot, row, small, upto}
 use Rattle.view_glyph.proofs.column.Goals as goal
 
+pub loop-i-init : goal.loop-i-init
+unfolding byte_of
+loop-i-init c = refl
+
+pub overflow_add-byte : goal.overflow_add-byte
+overflow_add-byte c =
+    let d = dot c.args.dots.now c.args.k in
+    let next = row c.loop-i.i d c.loop-i-test.true in
+    let bound : upto (c.loop-i.i + 1) d < 256 = small _ in
+    omega arith
+
+pub loop-i-preserved : goal.loop-i-preserved
+loop-i-preserved c =
+    let next = row c.loop-i.i (dot c.args.dots.now c.args.k) c.loop-i-test.true in
+    cc
+
 pub returns : goal.returns
-unfolding column_of byte_of
+unfolding column_of
 returns c =
-    rw (
-      zero-add c.args.k,
-      c.worth_of-7.ensures.0,
-      c.worth_of-6.ensures.0,
-      c.worth_of-5.ensures.0,
-      c.worth_of-4.ensures.0,
-      c.worth_of-3.ensures.0,
-      c.worth_of-2.ensures.0,
-      c.worth_of.ensures.0,
-    )
-    (sym (add-zero _))
+    let whole : c.loop-i.i ≡ 7 = omega arith in
+    c.loop-i.invariant ∙ ap (λ n. upto n (dot c.args.dots.now c.args.k)) whole
