@@ -14,6 +14,7 @@ pub fn read_full(from: &mut impl Read, to: &mut [u8]) -> io::Result<usize>
     ensures count { IfOk result (λ n. n ≤ length to.new) }
     ensures err { OnErr result (length to.new ≡ length to.old) }
 {
+    // no chain is plainer: each turn goes on by as many bytes as the reader gave, which may be fewer than were asked for
     let mut done = 0;
     while done < to.len() {
         let n = from.read(&mut to[done..])?;
@@ -26,6 +27,7 @@ pub fn read_full(from: &mut impl Read, to: &mut [u8]) -> io::Result<usize>
 }
 
 // Puts argument i at the start of a word and answers its length, 0 if it is longer than the word; none behind the last argument.
+// The 0 stays: it is what this function, which README names, answered, and the programs take such an argument as an unknown one.
 pub fn argument(env: &impl Env, i: usize, word: &mut [u8]) -> Option<usize>
     ensures { IfSome result (λ n. n ≤ length word.new) }
 {
