@@ -2,87 +2,51 @@
 // the note that is written below it, at most 256 bytes.
 #![tactic(auto)]
 
-ghost use Rattle.std.specs.Prelude.{◌≡◌, length};
-
 use std::env::Env;
 use std::io;
-use std::io::Print;
+use std::io::{Eprint, Print};
+use view_io::Stop;
+use view_picture::Framed;
 
-// Writes the glass in a frame, and the note below it.
-fn write_drawn(rt: &impl Print, glass: &[u8], note: &[u8]) -> io::Result<()>
-    requires { length glass.now ≡ 224 }
-{
-    let mut out = [0u8; 4096];
-    let n = view_picture::draw(&mut out, glass);
-    rt.write_all(view_text::part(&out, 0, n))?;
-    rt.write_all(note)
-}
-
-// Writes the glass as a PBM file.
-fn write_pbm(rt: &impl Print, glass: &[u8]) -> io::Result<()>
-    requires { length glass.now ≡ 224 }
-{
-    let mut out = [0u8; 256];
-    let n = view_picture::pbm(&mut out, glass);
-    rt.write_all(view_text::part(&out, 0, n))
-}
-
-// Writes the glass as a word asks: `draw` or `pbm`.
+// Writes the glass as a word asks: drawn in a frame, with the note below it, or as a PBM file. Any other word is complained of.
 fn write_as(
-    rt: &impl Print,
-    err: &impl Print,
+    rt: &(impl Print + Eprint),
     word: &[u8],
-    glass: &[u8],
+    glass: &[u8; 224],
     note: &[u8],
-) -> io::Result<()>
-    requires { length glass.now ≡ 224 }
-{
-    if word == b"draw".as_slice() {
-        return write_drawn(rt, glass, note);
+) -> io::Result<()> {
+    match word {
+        b"draw" => {
+            rt.print(Framed(glass))?;
+            rt.write_all(note)
+        }
+        b"pbm" => rt.write_all(&view_picture::pbm(glass)),
+        _ => eprintln!(rt; "an argument that is neither draw nor pbm"),
     }
-    if word == b"pbm".as_slice() {
-        return write_pbm(rt, glass);
-    }
-    view_io::complain(err, b"an argument that is neither draw nor pbm")
-}
-
-// Writes the glass as argument i asks, and answers whether there is one.
-fn write_by(
-    rt: &(impl Env + Print),
-    err: &impl Print,
-    i: usize,
-    glass: &[u8],
-    note: &[u8],
-) -> io::Result<bool>
-    requires { length glass.now ≡ 224 }
-{
-    let mut word = [0u8; 16];
-    let Some(n) = host_io::argument(rt, i, &mut word) else {
-        return Ok(false);
-    };
-    write_as(rt, err, &word[..n], glass, note)?;
-    Ok(true)
 }
 
 // Writes the glass once for each of the program's arguments.
-fn write_all(rt: &(impl Env + Print), err: &impl Print, glass: &[u8], note: &[u8]) -> io::Result<()>
-    requires { length glass.now ≡ 224 }
-{
+fn write_all(rt: &(impl Env + Print + Eprint), glass: &[u8; 224], note: &[u8]) -> io::Result<()> {
+    let mut word = [0u8; 16];
     for i in 1..usize::MAX {
-        if !write_by(rt, err, i, glass, note)? {
+        let Some(n) = host_io::argument(rt, i, &mut word) else {
             break;
-        }
+        };
+        write_as(rt, &word[..n], glass, note)?;
     }
     Ok(())
 }
 
-fn main(rt: HostRuntime) -> io::Result<()> {
+// Reads the glass and its note, and writes it.
+fn run(rt: &HostRuntime) -> Result<(), Stop> {
     let mut glass = [0u8; 224];
     let mut note = [0u8; 256];
-    let err = rt.stderr();
-    if !view_io::read_glass(&mut rt.stdin(), &err, &mut glass)? {
-        return Ok(());
-    }
+    view_io::read_glass(&mut rt.stdin(), &mut glass)?;
     let n = host_io::read_full(&mut rt.stdin(), &mut note)?;
-    write_all(&rt, &err, &glass, &note[..n])
+    write_all(rt, &glass, &note[..n])?;
+    Ok(())
+}
+
+fn main(rt: HostRuntime) -> io::Result<()> {
+    view_io::end(&rt, run(&rt))
 }

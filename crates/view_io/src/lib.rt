@@ -1,55 +1,86 @@
-// What the viewer's programs share: the font and then a stream on the input, or a glass; and complaints, which the programs put on standard
-// error. A program that complains writes nothing else. It uses the library's readers and writers, and hands back an error of theirs.
+// What the viewer's programs share: the font and then a stream on the input, or a glass; and why a program ends early, which is said on
+// standard error. A program that complains of its input writes nothing else. It uses the library's readers, and hands back their errors.
 #![tactic(auto)]
 
-ghost use Rattle.std.specs.Prelude.{◌≡◌, length, OnErr};
+ghost use Rattle.std.specs.Prelude.{◌≡◌, ◌≤◌, length, Err, IsOk, IfOk, OnErr};
+ghost use Rattle.view_io.specs.declared.Stop.TheVariants.{Io};
 
-use std::io;
-use std::io::{Print, Read};
+use paper::Refusal;
+use std::io::{Eprint, Read};
+use std::{fmt, io};
 
-// Says what is wrong.
-pub fn complain(err: &impl Print, text: &[u8]) -> io::Result<()> {
-    err.write_all(text)?;
-    err.write_all(b"\n")
+// Why a program ends early: what is wrong with its input or with an address, which is none where it is above 255; or an error of its
+// reader or writer.
+#[derive(Debug, Drop)]
+pub enum Stop {
+    NoFont,
+    NoGlass,
+    TooLong,
+    WrongAddress(Option<u8>),
+    Io(io::Error),
 }
 
-// Fills a buffer from the input, and answers whether all of it has come. An error is the input's or the complaint's.
-fn read_whole(
-    from: &mut impl Read,
-    err: &impl Print,
-    to: &mut [u8],
-    complaint: &[u8],
-) -> io::Result<bool>
+impl fmt::Display for Stop {
+    fn fmt<W: fmt::Write>(&self, f: &mut fmt::Formatter<W>) -> fmt::Result {
+        match self {
+            Stop::NoFont => write!(f, "the input begins with no font of 1120 bytes"),
+            Stop::NoGlass => write!(f, "the input begins with no glass of 224 bytes"),
+            Stop::TooLong => write!(f, "more than 1048576 bytes"),
+            Stop::WrongAddress(address) => write_address(f, *address),
+            Stop::Io(e) => write!(f, "{e}"),
+        }
+    }
+}
+
+// With which number a call refuses an address, and why.
+fn write_address<W: fmt::Write>(f: &mut fmt::Formatter<W>, address: Option<u8>) -> fmt::Result {
+    let number = numbers::refusal_number(Refusal::NoSuchAddress);
+    match address {
+        Some(n) => write!(f, "{number}: the address {n} is not 0 to 15"),
+        None => write!(f, "{number}: the address is not 0 to 15"),
+    }
+}
+
+impl From<io::Error> for Stop {
+    fn from(e: io::Error) -> Stop {
+        Stop::Io(e)
+    }
+}
+
+// What a program ends with: a complaint is said, an error of a reader or writer is its own.
+pub fn end(rt: &impl Eprint, ended: Result<(), Stop>) -> io::Result<()>
+    ensures well { IsOk ended → IsOk result }
+    ensures error { (e : _) → ended ≡ Err (Io e) → result ≡ Err e }
+{
+    match ended {
+        Ok(()) => Ok(()),
+        Err(Stop::Io(e)) => Err(e),
+        Err(complaint) => rt.eprintln(complaint),
+    }
+}
+
+// Fills a buffer from the input; `short` says what is wrong where too little has come.
+fn read_whole(from: &mut impl Read, to: &mut [u8], short: Stop) -> Result<(), Stop>
     ensures err { OnErr result (length to.new ≡ length to.old) }
 {
-    let n = host_io::read_full(from, to)?;
-    if n == to.len() {
-        return Ok(true);
+    if host_io::read_full(from, to)? == to.len() {
+        return Ok(());
     }
-    complain(err, complaint)?;
-    Ok(false)
+    Err(short)
 }
 
-pub fn read_font(from: &mut impl Read, err: &impl Print, font: &mut [u8]) -> io::Result<bool>
+// Reads a font.
+pub fn read_font(from: &mut impl Read, font: &mut [u8]) -> Result<(), Stop>
     ensures err { OnErr result (length font.new ≡ length font.old) }
 {
-    read_whole(
-        from,
-        err,
-        font,
-        b"the input begins with no font of 1120 bytes",
-    )
+    read_whole(from, font, Stop::NoFont)
 }
 
-pub fn read_glass(from: &mut impl Read, err: &impl Print, glass: &mut [u8]) -> io::Result<bool>
+// Reads a glass.
+pub fn read_glass(from: &mut impl Read, glass: &mut [u8]) -> Result<(), Stop>
     ensures err { OnErr result (length glass.new ≡ length glass.old) }
 {
-    read_whole(
-        from,
-        err,
-        glass,
-        b"the input begins with no glass of 224 bytes",
-    )
+    read_whole(from, glass, Stop::NoGlass)
 }
 
 // Room for the longest stream, and a byte more.
@@ -59,24 +90,14 @@ pub fn room() -> [u8; 1048577]
     [0; 1048577]
 }
 
-// What came after the font: how many bytes, and whether they are not too many.
-#[derive(Clone, Copy)]
-pub struct Input {
-    pub ok: bool,
-    pub bytes: usize,
-}
-
-// Reads what follows the font. It is too long if it fills the room.
-pub fn read_rest(from: &mut impl Read, err: &impl Print, room: &mut [u8]) -> io::Result<Input>
+// Reads what follows the font, and answers how many bytes it put at the start of the room. It is too long if it fills the room.
+pub fn read_rest(from: &mut impl Read, room: &mut [u8]) -> Result<usize, Stop>
+    ensures count { IfOk result (λ n. n ≤ length room.new) }
     ensures err { OnErr result (length room.new ≡ length room.old) }
 {
     let n = host_io::read_full(from, room)?;
     if n < room.len() {
-        return Ok(Input { ok: true, bytes: n });
+        return Ok(n);
     }
-    complain(err, b"more than 1048576 bytes")?;
-    Ok(Input {
-        ok: false,
-        bytes: 0,
-    })
+    Err(Stop::TooLong)
 }

@@ -9,13 +9,7 @@ ghost use Rattle.paper.specs.Telegrams.{good};
 use paper::Received;
 use std::io;
 use std::io::Print;
-
-// How the input is read: as one stream, or as a link at an address.
-#[derive(Clone, Copy)]
-pub struct Way {
-    pub is_link: bool,
-    pub address: usize,
-}
+use view_line::{StretchLine, TelegramLine};
 
 // The bytes from `first` to before `end` are fed, and the next part is looked for from `after` on.
 #[derive(Clone, Copy)]
@@ -27,25 +21,10 @@ pub struct Part {
 
 // Writes the line of bytes that are no telegram's, if there are any.
 fn write_stretch(rt: &impl Print, place: usize, bytes: &[u8]) -> io::Result<()> {
-    let mut out = [0u8; 160];
-    if bytes.len() > 0 {
-        let n = view_line::put_stretch(&mut out, place, bytes);
-        rt.write_all(view_text::part(&out, 0, n))?;
+    if bytes.is_empty() {
+        return Ok(());
     }
-    Ok(())
-}
-
-// Writes the line of a telegram.
-fn write_telegram(
-    rt: &impl Print,
-    place: usize,
-    bytes: &[u8],
-    to: u8,
-    ours: bool,
-) -> io::Result<()> {
-    let mut out = [0u8; 160];
-    let n = view_line::put_telegram(&mut out, place, bytes, to, ours);
-    rt.write_all(view_text::part(&out, 0, n))
+    rt.println(StretchLine { place, bytes })
 }
 
 // Where the bytes that are fed of a telegram end: behind its data, or before them if it is another's.
@@ -67,7 +46,13 @@ fn telegram_at(rt: &impl Print, link: &[u8], place: usize, address: usize) -> io
     let t = telegrams::found(link, place);
     let to = link[place + 1];
     let ours = telegrams::is_ours(to, address);
-    write_telegram(rt, place, view_text::part(link, place, t.after), to, ours)?;
+    let bytes = &link[place..t.after];
+    rt.println(TelegramLine {
+        place,
+        bytes,
+        to,
+        ours,
+    })?;
     Ok(Part {
         first: t.first,
         end: fed_end(t, ours),
@@ -92,13 +77,18 @@ fn next_telegram(rt: &impl Print, link: &[u8], place: usize, address: usize) -> 
     })
 }
 
-// The part that begins at `place` or, in a link, behind it.
-pub fn next_part(rt: &impl Print, input: &[u8], place: usize, way: Way) -> io::Result<Part>
+// The part that begins at `place` or, in a link that is read at an address, behind it.
+pub fn next_part(
+    rt: &impl Print,
+    input: &[u8],
+    place: usize,
+    address: Option<usize>,
+) -> io::Result<Part>
     requires { place < length input.now }
     ensures { IfOk result (λ p. (p.end ≤ length input.now) × (place < p.after)) }
 {
-    if way.is_link {
-        return next_telegram(rt, input, place, way.address);
+    if let Some(address) = address {
+        return next_telegram(rt, input, place, address);
     }
     Ok(Part {
         first: place,

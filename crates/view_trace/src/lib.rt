@@ -6,129 +6,95 @@
 
 ghost use Rattle.std.specs.Prelude.{◌≤◌, length};
 
+use arrayvec::ArrayVec;
 use paper::{Outcome, State};
 use std::io;
 use std::io::Print;
-use view_parts::Way;
+use view_line::CommandLine;
+use view_parts::Part;
 
-// The panel's state, and of the command that is half read how many bytes are kept, and the place of its first.
-#[derive(Clone, Copy)]
-struct Running {
+// A panel whose commands are traced: what its calls are lent, its state, and of the command that is half read its bytes and the place of
+// the first. The longest command, a define of 224 characters, has 1,797 bytes.
+#[derive(Drop)]
+struct Traced<'a> {
+    font: &'a [u8],
+    mem: [u8; 1024],
+    store: [u8; 144],
     state: State,
-    kept: usize,
-    from: usize,
-}
-
-// Writes the line of a command that begins at `place`.
-fn write_line(
-    rt: &impl Print,
+    command: ArrayVec<u8, 2048>,
     place: usize,
-    command: &[u8],
-    o: Outcome,
-    s: State,
-) -> io::Result<()> {
-    let mut out = [0u8; 160];
-    let n = view_line::put(&mut out, place, command, o, s);
-    rt.write_all(view_text::part(&out, 0, n))
 }
 
-// Where the command begins whose next byte is at i: there, if none of its bytes is kept.
-fn begun(from: usize, kept: usize, i: usize) -> usize {
-    if kept == 0 {
-        return i;
+impl Traced<'_> {
+    // A fresh panel.
+    fn start(font: &[u8]) -> Traced<'_> {
+        let mut mem = [0u8; 1024];
+        let mut store = [0u8; 144];
+        let a = panel::start(&mut mem, &mut store);
+        Traced {
+            font,
+            mem,
+            store,
+            state: a.state,
+            command: ArrayVec::new(),
+            place: 0,
+        }
     }
-    from
-}
 
-// Writes the line of the command whose bytes are kept, if its last byte finished it, and answers how many are kept for the next.
-fn tell(
-    rt: &impl Print,
-    command: &[u8],
-    kept: usize,
-    from: usize,
-    o: Outcome,
-    s: State,
-) -> io::Result<usize> {
-    if numbers::outcome_number(o) == 9 {
-        return Ok(kept);
+    // Keeps a byte of the command; the first one says where it begins.
+    fn keep(&mut self, place: usize, b: u8) {
+        if self.command.is_empty() {
+            self.place = place;
+        }
+        if !self.command.is_full() {
+            self.command.push(b);
+        }
     }
-    write_line(rt, from, view_text::part(command, 0, kept), o, s)?;
-    Ok(0)
-}
 
-// Feeds the bytes of the input from `first` to before `end`.
-fn feed_part(
-    rt: &impl Print,
-    font: &[u8],
-    input: &[u8],
-    first: usize,
-    end: usize,
-    mem: &mut [u8],
-    store: &mut [u8],
-    command: &mut [u8],
-    running: Running,
-) -> io::Result<Running>
-    requires { end ≤ length input.now }
-{
-    let mut state = running.state;
-    let mut kept = running.kept;
-    let mut from = running.from;
-    let mut i = first;
-    while i < end {
-        let next = i + 1;
-        from = begun(from, kept, i);
-        kept = view_text::put(command, kept, input[i]);
-        let f = panel::feed(mem, store, font, &input[i..next], state);
-        let o = f.outcome;
-        state = f.state;
-        kept = tell(rt, command, kept, from, o, state)?;
-        i = next;
+    // Writes the command's line.
+    fn tell(&self, rt: &impl Print, outcome: Outcome) -> io::Result<()> {
+        rt.println(CommandLine {
+            place: self.place,
+            command: self.command.as_slice(),
+            outcome,
+            state: self.state,
+        })
     }
-    Ok(Running { state, kept, from })
+
+    // Feeds the byte at a place of the input, and writes the line of the command that it finishes.
+    fn feed(&mut self, rt: &impl Print, place: usize, b: u8) -> io::Result<()> {
+        self.keep(place, b);
+        let f = panel::feed(&mut self.mem, &mut self.store, self.font, &[b], self.state);
+        self.state = f.state;
+        if f.outcome != Outcome::Unfinished {
+            self.tell(rt, f.outcome)?;
+            self.command.clear();
+        }
+        Ok(())
+    }
+
+    // Feeds a part of the input.
+    fn feed_part(&mut self, rt: &impl Print, input: &[u8], part: Part) -> io::Result<()>
+        requires { part.end ≤ length input.now }
+    {
+        for i in part.first..part.end {
+            self.feed(rt, i, input[i])?;
+        }
+        Ok(())
+    }
 }
 
-// Feeds the input to a fresh panel with this memory and room for downloads, part by part.
-fn feed(
-    rt: &impl Print,
-    font: &[u8],
-    input: &[u8],
-    way: Way,
-    mem: &mut [u8],
-    store: &mut [u8],
-    command: &mut [u8],
-) -> io::Result<Running> {
-    let a = panel::start(mem, store);
-    let fresh = a.state;
-    let mut running = Running {
-        state: fresh,
-        kept: 0,
-        from: 0,
-    };
+// Feeds the input, a link where there is an address, to a fresh panel and writes the lines.
+pub fn trace(rt: &impl Print, font: &[u8], input: &[u8], address: Option<usize>) -> io::Result<()> {
+    let mut traced = Traced::start(font);
     let mut place = 0;
     while place < input.len() {
-        let part = view_parts::next_part(rt, input, place, way)?;
-        running = feed_part(
-            rt, font, input, part.first, part.end, mem, store, command, running,
-        )?;
+        let part = view_parts::next_part(rt, input, place, address)?;
+        traced.feed_part(rt, input, part)?;
         place = part.after;
     }
-    Ok(running)
-}
-
-// Feeds the input to a fresh panel and writes the lines. The longest command, a define of 224 characters, has 1,797 bytes.
-pub fn trace(rt: &impl Print, font: &[u8], input: &[u8], way: Way) -> io::Result<()> {
-    let mut mem = [0u8; 1024];
-    let mut store = [0u8; 144];
-    let mut command = [0u8; 2048];
-    let last = feed(rt, font, input, way, &mut mem, &mut store, &mut command)?;
-    if last.kept > 0 {
-        write_line(
-            rt,
-            last.from,
-            view_text::part(&command, 0, last.kept),
-            Outcome::Unfinished,
-            last.state,
-        )?;
+    if traced.command.is_empty() {
+        return Ok(());
     }
-    Ok(())
+    traced.tell(rt, Outcome::Unfinished)
 }

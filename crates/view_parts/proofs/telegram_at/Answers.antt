@@ -17,6 +17,12 @@ pub fed_end-requires : goal.fed_end-requires
 fed_end-requires g c =
     rw c.found-t.ensures (omega arith)
 
+pub slice_bounds-bytes-end : goal.slice_bounds-bytes-end
+slice_bounds-bytes-end g c =
+    let f = good-framed _ _ c.requires in
+    let a = ap (λ (t : Received). t.after) c.found-t.ensures in
+    omega (arith, a)
+
 pub returns : goal.returns
 returns g c =
     let f = good-framed _ _ c.requires in
