@@ -60,6 +60,7 @@ pub fn end(rt: &impl Eprint, ended: Result<(), Stop>) -> io::Result<()>
 }
 
 // Fills a buffer from the input; `short` says what is wrong where too little has come.
+// Here and below a slice is lent, and no array: one of a fixed length would ask more of a caller.
 fn read_whole(from: &mut impl Read, to: &mut [u8], short: Stop) -> Result<(), Stop>
     ensures err { OnErr result (length to.new ≡ length to.old) }
 {

@@ -85,6 +85,7 @@ impl Traced<'_> {
 }
 
 // Feeds the input, a link where there is an address, to a fresh panel and writes the lines.
+// A `while`: each part says where the next one is looked for, and finding it writes lines, which may fail.
 pub fn trace(rt: &impl Print, font: &[u8], input: &[u8], address: Option<usize>) -> io::Result<()> {
     let mut traced = Traced::start(font);
     let mut place = 0;
