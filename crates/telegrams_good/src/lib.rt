@@ -2,16 +2,9 @@
 // It uses the paper alone.
 #![tactic(auto)]
 
-ghost use Rattle.std.specs.Prelude.{◌≡◌, ◌<◌, length};
+ghost use Rattle.std.specs.Prelude.{◌≡◌, ℕ, ◌<◌, ◌≤◌, true, false, length, IfSome, IfNone};
 ghost use Rattle.telegrams_good.specs.Frames.{Frames};
-ghost use Rattle.paper.specs.Telegrams.{framed, first_good};
-
-// A byte of a telegram as a number of places.
-pub fn wide(b: u8) -> usize
-    ensures { result ≡ b }
-{
-    b as usize
-}
+ghost use Rattle.paper.specs.Telegrams.{framed, good, first_good};
 
 // Whether the bytes from `place` on are a telegram's but for the check byte, which the piece has too.
 fn is_framed(piece: &[u8], place: usize) -> bool
@@ -24,50 +17,47 @@ fn is_framed(piece: &[u8], place: usize) -> bool
     if piece.len() - place < 6 {
         return false;
     }
-    let count = wide(piece[place + 2]);
+    let count = usize::from(piece[place + 2]);
     if piece.len() - place < count + 5 {
         return false;
     }
     if piece[place + count + 3] != 0x03 {
         return false;
     }
-    (1 <= count) & (count <= 0x80)
+    (1..=0x80).contains(&count)
 }
 
-// The first place from `from` on whose bytes are so; one past the end if there is none.
-fn frame(piece: &[u8], from: usize) -> usize
-    ensures { Frames piece.now from result }
+// The first place from `from` on whose bytes are so.
+fn frame(piece: &[u8], from: usize) -> Option<usize>
+    ensures found { IfSome result (λ p. (p < length piece.now) × Frames piece.now from p) }
+    ensures none { IfNone result ((p : ℕ) → from ≤ p → p < length piece.now → framed piece.now p ≡ false) }
 {
-    let mut place = from;
-    while place < piece.len() {
-        if is_framed(piece, place) {
-            break;
-        }
-        place = place + 1;
-    }
-    place
+    (from..piece.len()).find(
+        |&place|
+            requires { place < length piece.now }
+        { is_framed(piece, place) },
+    )
 }
 
-// The first place from `from` on from which a good telegram can be read, whoever's; one past the end if there is none. The outer loop goes
-// over the places, the inner over the check bytes.
-pub fn next(piece: &[u8], from: usize) -> usize
-    ensures { result ≡ first_good piece.now from }
+// The first place from `from` on from which a good telegram can be read, whoever's. The outer loop goes over the places, the inner over the
+// check bytes.
+pub fn next(piece: &[u8], mut from: usize) -> Option<usize>
+    ensures found { IfSome result (λ p. (p ≡ first_good piece.now from) × (good piece.now p ≡ true)) }
+    ensures none { IfNone result (length piece.now ≤ first_good piece.now from) }
 {
-    let mut place = frame(piece, from);
-    'places: while place < piece.len() {
-        let size = wide(piece[place + 2]) + 4;
-        let mut sum: u8 = 0;
-        let mut k = 0;
-        'bytes: while k != size {
-            sum = sum ^ piece[place + k];
-            k = k + 1;
-            if k == size {
-                if sum == piece[place + size] {
-                    break 'places;
-                }
+    'places: loop {
+        let place = frame(piece, from)?;
+        let size = usize::from(piece[place + 2]) + 4;
+        let check = piece[place + size];
+        let mut sum = 0;
+        let mut bytes = &piece[place..place + size];
+        'bytes: while let [byte, rest @ ..] = bytes {
+            sum ^= byte;
+            bytes = rest;
+            if rest.is_empty() && sum == check {
+                break 'places Some(place);
             }
         }
-        place = frame(piece, place + 1);
+        from = place + 1;
     }
-    place
 }

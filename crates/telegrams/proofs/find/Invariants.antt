@@ -1,13 +1,14 @@
--- `find` meets its contract. Assumes nothing.
+-- `find` meets its contract: what is left to search gives what all gives. Assumes nothing.
+use mathlib.Core.Path.{◌≡◌}
 use Prim.Native.Nat.{◌-◌}
 use lib.ListN.{length}
-use Rattle.telegrams.proofs.Asks.{Asks}
+use Rattle.paper.specs.Telegrams.{search_from}
 use Rattle.telegrams.proofs.find.Given as goal
 
 abbrev pub invariant-loop-place : goal.invariant-loop-place
 invariant-loop-place l =
-    Asks l.address l.piece l.place
+    search_from l.address l.piece l.from ≡ search_from l.address l.piece 0
 
 abbrev pub decreases-loop-place : goal.decreases-loop-place
 decreases-loop-place l =
-    length l.piece - l.place
+    length l.piece - l.from

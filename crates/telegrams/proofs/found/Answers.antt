@@ -15,14 +15,6 @@ pub overflow_add-result : goal.overflow_add-result
 overflow_add-result c =
     let f = good-framed _ _ c.requires in omega arith
 
-pub overflow_add-result-2 : goal.overflow_add-result-2
-overflow_add-result-2 c =
-    let f = good-framed _ _ c.requires in let e = c.wide-count.ensures in omega arith
-
 pub overflow_add-result-3 : goal.overflow_add-result-3
 overflow_add-result-3 c =
-    let f = good-framed _ _ c.requires in let e = c.wide-count.ensures in omega arith
-
-pub returns : goal.returns
-returns c =
-    rw c.wide-count.ensures
+    let f = good-framed _ _ c.requires in let e = c.from-count.ensures in omega arith
