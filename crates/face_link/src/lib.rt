@@ -11,12 +11,18 @@ use face::PanelReceived;
 pub fn receive(piece: &[u8], address: usize) -> PanelReceived
     ensures { result ≡ receive_c piece.now address }
 {
-    let telegram = telegrams::find(piece, address);
-    let refusal = telegram.refusal;
-    PanelReceived {
-        answer: numbers::refusal_number(refusal),
-        first: telegram.first,
-        count: telegram.count,
-        after: telegram.after,
+    match telegrams::find(piece, address) {
+        Ok(telegram) => PanelReceived {
+            answer: 0,
+            first: telegram.first,
+            count: telegram.count,
+            after: telegram.after,
+        },
+        Err(refusal) => PanelReceived {
+            answer: numbers::refusal_number(refusal),
+            first: 0,
+            count: 0,
+            after: 0,
+        },
     }
 }

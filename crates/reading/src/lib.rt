@@ -12,6 +12,7 @@ ghost use Rattle.paper.specs.Reading.{read_of};
 use paper::{Batch, Command, Half, Module, Reading};
 
 // What a byte gives to what is half read.
+#[tactic(auto, unfolding(paper::specs::Reading::read_of))]
 pub fn read(g: Module, half: Half, b: u8) -> Reading
     requires { half_ok g half ≡ true }
     ensures { result ≡ read_of g half b }
@@ -41,7 +42,7 @@ pub fn read(g: Module, half: Half, b: u8) -> Reading
             },
         ),
         Half::GlyphWidth { batch, dropped } => reading_codes::more_if(
-            (b == 5) | (b == 7),
+            matches!(b, 5 | 7),
             Half::GlyphByte {
                 batch,
                 dropped,
@@ -73,10 +74,7 @@ pub fn read(g: Module, half: Half, b: u8) -> Reading
         Half::EnlargeX => Reading::More(Half::EnlargeY { x: b }),
         Half::EnlargeY { x } => Reading::Whole(Command::Enlarge { x, y: b }),
         Half::SelectA => Reading::Whole(Command::Select(b)),
-        Half::WindowA => reading_codes::more_if(
-            reading_words::is_between(1, 4, b as usize),
-            Half::WindowB { a: b },
-        ),
+        Half::WindowA => reading_codes::more_if((1..=4).contains(&b), Half::WindowB { a: b }),
         Half::WindowB { a } => reading_words::read_window_b(a, b),
         Half::EraseA => Reading::More(Half::EraseCode { a: b }),
         Half::EraseCode { a } => Reading::Whole(Command::Erase { a, code: b }),

@@ -13,19 +13,17 @@ pub fn more_if(ok: bool, half: Half) -> Reading
     ensures { result ≡ more_if ok half }
 {
     if ok {
-        return Reading::More(half);
+        Reading::More(half)
+    } else {
+        Reading::Cancels
     }
-    Reading::Cancels
 }
 
 // A code that not every module knows.
 pub fn only_if(known: bool, r: Reading) -> Reading
     ensures { result ≡ only_if known r }
 {
-    if known {
-        return r;
-    }
-    Reading::UnknownCode
+    if known { r } else { Reading::UnknownCode }
 }
 
 // The one byte of a setting is awaited.
@@ -50,6 +48,7 @@ pub fn more_rest(left: u8) -> Reading
 }
 
 // The moves, 08h to 0Dh.
+#[tactic(auto, unfolding(paper::specs::Reading::read_move))]
 fn read_move(b: u8) -> Reading
     ensures { result ≡ read_move b }
 {
@@ -64,6 +63,7 @@ fn read_move(b: u8) -> Reading
 }
 
 // The first byte: characters, moves, window shortcuts, openers; the rest is unknown.
+#[tactic(auto, unfolding(paper::specs::Reading::read_first))]
 pub fn read_first(g: Module, b: u8) -> Reading
     ensures { result ≡ read_first g b }
 {
@@ -78,6 +78,7 @@ pub fn read_first(g: Module, b: u8) -> Reading
 }
 
 // After 1Bh.
+#[tactic(auto, unfolding(paper::specs::Reading::read_escape))]
 pub fn read_escape(g: Module, b: u8) -> Reading
     ensures { result ≡ read_escape g b }
 {

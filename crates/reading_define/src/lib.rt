@@ -14,26 +14,20 @@ pub fn no_columns(width: u8) -> Columns
 {
     Columns {
         width,
-        come: 0,
-        c0: 0,
-        c1: 0,
-        c2: 0,
-        c3: 0,
-        c4: 0,
-        c5: 0,
-        c6: 0,
+        ..Columns::default()
     }
 }
 
 // A download's columns with one more, in its place.
+#[tactic(auto, unfolding(paper::specs::Reading::with_column))]
 pub fn with_column(c: Columns, b: u8) -> Columns
     requires { c.come < 7 }
     ensures { result ≡ with_column c b }
 {
-    let come = c.come;
     let mut t = c;
-    t.come = come + 1;
-    match come {
+    t.come += 1;
+    // a field each, for speed: an array in the state would be copied several times for each byte
+    match c.come {
         0 => t.c0 = b,
         1 => t.c1 = b,
         2 => t.c2 = b,
@@ -46,19 +40,21 @@ pub fn with_column(c: Columns, b: u8) -> Columns
 }
 
 // A download's column has come: the next one is awaited, or it was the last.
+#[tactic(auto, unfolding(paper::specs::Reading::read_column))]
 pub fn read_column(batch: Batch, dropped: bool, columns: Columns) -> Reading
     ensures { result ≡ read_column batch dropped columns }
 {
     if columns.come < columns.width {
-        return Reading::More(Half::GlyphByte {
+        Reading::More(Half::GlyphByte {
             batch,
             dropped,
             columns,
-        });
-    }
-    Reading::GlyphEnd {
-        batch,
-        dropped,
-        columns,
+        })
+    } else {
+        Reading::GlyphEnd {
+            batch,
+            dropped,
+            columns,
+        }
     }
 }

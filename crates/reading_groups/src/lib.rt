@@ -9,6 +9,7 @@ ghost use Rattle.paper.specs.Reading.{read_unit, read_group, read_actions, read_
 use paper::{Command, Half, Key, Module, Reading, Word};
 
 // After 1Fh.
+#[tactic(auto, unfolding(paper::specs::Reading::read_unit))]
 pub fn read_unit(b: u8) -> Reading
     ensures { result ≡ read_unit b }
 {
@@ -26,6 +27,7 @@ pub fn read_unit(b: u8) -> Reading
 }
 
 // After 1Fh 28h.
+#[tactic(auto, unfolding(paper::specs::Reading::read_group))]
 pub fn read_group(b: u8) -> Reading
     ensures { result ≡ read_group b }
 {
@@ -39,6 +41,7 @@ pub fn read_group(b: u8) -> Reading
 }
 
 // After 1Fh 28h 61h: how many parameter bytes follow, unchecked.
+#[tactic(auto, unfolding(paper::specs::Reading::read_actions))]
 pub fn read_actions(b: u8) -> Reading
     ensures { result ≡ read_actions b }
 {
@@ -52,6 +55,7 @@ pub fn read_actions(b: u8) -> Reading
 }
 
 // After 1Fh 28h 66h.
+#[tactic(auto, unfolding(paper::specs::Reading::read_images))]
 pub fn read_images(b: u8) -> Reading
     ensures { result ≡ read_images b }
 {
@@ -62,6 +66,7 @@ pub fn read_images(b: u8) -> Reading
 }
 
 // After 1Fh 28h 67h.
+#[tactic(auto, unfolding(paper::specs::Reading::read_characters))]
 pub fn read_characters(g: Module, b: u8) -> Reading
     ensures { result ≡ read_characters g b }
 {
@@ -73,6 +78,7 @@ pub fn read_characters(g: Module, b: u8) -> Reading
 }
 
 // After 1Fh 28h 77h.
+#[tactic(auto, unfolding(paper::specs::Reading::read_windows))]
 pub fn read_windows(b: u8) -> Reading
     ensures { result ≡ read_windows b }
 {

@@ -3,38 +3,36 @@
 #![tactic(auto)]
 
 ghost use Rattle.std.specs.Prelude.{◌≡◌};
-ghost use Rattle.paper.specs.Reading.{between, read_rest, read_window_b, read_word, read_image};
+ghost use Rattle.paper.specs.Reading.{read_rest, read_window_b, read_word, read_image};
 
 use paper::{Command, Half, Module, Reading, Word};
 
-// Whether n is lo to hi.
-pub fn is_between(lo: usize, hi: usize, n: usize) -> bool
-    ensures { result ≡ between lo hi n }
-{
-    (lo <= n) & (n <= hi)
-}
-
 // A byte of a command that is not checked: the last one makes it whole.
+#[tactic(auto, unfolding(paper::specs::Reading::read_rest))]
 pub fn read_rest(left: u8) -> Reading
     ensures { result ≡ read_rest left }
 {
     if left <= 1 {
-        return Reading::Whole(Command::Uncarried);
+        Reading::Whole(Command::Uncarried)
+    } else {
+        reading_codes::more_rest(left - 1)
     }
-    reading_codes::more_rest(left - 1)
 }
 
 // Whether window a is cancelled or defined.
+#[tactic(auto, unfolding(paper::specs::Reading::read_window_b))]
 pub fn read_window_b(a: u8, b: u8) -> Reading
     ensures { result ≡ read_window_b a b }
 {
     if b == 0 {
-        return Reading::Whole(Command::Cancel(a));
+        Reading::Whole(Command::Cancel(a))
+    } else {
+        reading_codes::more_if(b == 1, Half::Low(Word::WindowLeft { a }))
     }
-    reading_codes::more_if(b == 1, Half::Low(Word::WindowLeft { a }))
 }
 
 // A 16-bit parameter that has come whole. An image's size is tested here, with its high byte.
+#[tactic(auto, unfolding(paper::specs::Reading::read_word))]
 pub fn read_word(g: Module, word: Word, n: u16) -> Reading
     ensures { result ≡ read_word g word n }
 {
@@ -66,22 +64,23 @@ pub fn read_word(g: Module, word: Word, n: u16) -> Reading
             height: n,
         }),
         Word::ImageWidth => reading_codes::more_if(
-            is_between(1, g.columns, n as usize),
+            (1..=g.columns).contains(&usize::from(n)),
             Half::Low(Word::ImageHeight { width: n }),
         ),
         Word::ImageHeight { width } => reading_codes::more_if(
-            is_between(1, g.rows, n as usize),
+            (1..=g.rows).contains(&usize::from(n)),
             Half::ImageKind { width, height: n },
         ),
     }
 }
 
 // An image's byte and its place: column by column, top first.
+#[tactic(auto, unfolding(paper::specs::Reading::read_image))]
 pub fn read_image(width: u16, height: u16, column: u16, row: u16, b: u8) -> Reading
     ensures { result ≡ read_image width height column row b }
 {
-    if (row as usize) + 1 < (height as usize) {
-        return Reading::ImageByte {
+    if usize::from(row) + 1 < usize::from(height) {
+        Reading::ImageByte {
             column,
             row,
             byte: b,
@@ -91,10 +90,9 @@ pub fn read_image(width: u16, height: u16, column: u16, row: u16, b: u8) -> Read
                 column,
                 row: row + 1,
             },
-        };
-    }
-    if (column as usize) + 1 < (width as usize) {
-        return Reading::ImageByte {
+        }
+    } else if usize::from(column) + 1 < usize::from(width) {
+        Reading::ImageByte {
             column,
             row,
             byte: b,
@@ -104,11 +102,12 @@ pub fn read_image(width: u16, height: u16, column: u16, row: u16, b: u8) -> Read
                 column: column + 1,
                 row: 0,
             },
-        };
-    }
-    Reading::ImageEnd {
-        column,
-        row,
-        byte: b,
+        }
+    } else {
+        Reading::ImageEnd {
+            column,
+            row,
+            byte: b,
+        }
     }
 }

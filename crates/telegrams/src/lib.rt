@@ -37,6 +37,7 @@ pub fn is_ours(to: u8, address: usize) -> bool
 }
 
 // What a received piece has for an address: the first good telegram to it, or to all. One to another is passed as a whole.
+#[tactic(auto, unfolding(paper::specs::Telegrams::receive_call))]
 pub fn find(piece: &[u8], address: usize) -> Result<Telegram, Refusal>
     ensures { received result ≡ receive_call piece.now address }
 {

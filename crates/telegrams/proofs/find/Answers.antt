@@ -15,11 +15,6 @@ module _ (address : ℕ) (piece : List ℕ) (from : ℕ) (whole : search_from ad
   at_first : {p : ℕ} → p ≡ first_good piece from → search_from address piece p ≡ search_from address piece 0
   at_first e = ap (search_from address piece) e ∙ sym (search_first address piece from) ∙ whole
 
-pub returns-then-address-gt15 : goal.returns-then-address-gt15
-unfolding receive_call
-returns-then-address-gt15 c =
-    rw (lt-leb _ _ c.if-address-gt15.true)
-
 pub found-telegram-requires : goal.found-telegram-requires
 found-telegram-requires c =
     c.in-Some.ensures.found.1
