@@ -6,9 +6,9 @@
 ghost use Rattle.std.specs.Prelude.{◌≡◌, true, ◌+◌, ◌<◌, ◌≤◌, length, IfOk};
 ghost use Rattle.paper.specs.Telegrams.{good};
 
-use paper::Received;
 use std::io;
 use std::io::Print;
+use telegrams::Telegram;
 use view_line::{StretchLine, TelegramLine};
 
 // The bytes from `first` to before `end` are fed, and the next part is looked for from `after` on.
@@ -28,7 +28,7 @@ fn write_stretch(rt: &impl Print, place: usize, bytes: &[u8]) -> io::Result<()> 
 }
 
 // Where the bytes that are fed of a telegram end: behind its data, or before them if it is another's.
-fn fed_end(t: Received, ours: bool) -> usize
+fn fed_end(t: Telegram, ours: bool) -> usize
     requires { t.first + t.count < t.after }
     ensures { result < t.after }
 {
@@ -65,9 +65,13 @@ fn next_telegram(rt: &impl Print, link: &[u8], place: usize, address: usize) -> 
     requires { place < length link.now }
     ensures { IfOk result (λ p. (p.end ≤ length link.now) × (place < p.after)) }
 {
-    let at = telegrams_good::next(link, place);
-    write_stretch(rt, place, view_text::part(link, place, at))?;
-    if at < link.len() {
+    let next = telegrams_good::next(link, place);
+    write_stretch(
+        rt,
+        place,
+        view_text::part(link, place, next.unwrap_or(link.len())),
+    )?;
+    if let Some(at) = next {
         return telegram_at(rt, link, at, address);
     }
     Ok(Part {

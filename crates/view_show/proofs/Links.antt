@@ -1,12 +1,10 @@
--- What holds whenever `link::feed` asks whether a telegram was found, and how it goes on. Assumes nothing.
+-- What holds whenever `link::feed` looks for the next telegram, and how it goes on. Assumes nothing.
 use mathlib.Core.Path.{◌≡◌, sym, ap, subst, ◌∙◌}
 use mathlib.Core.Bool.{true, cond}
 use mathlib.Core.List.{List, [], ◌∷◌}
 use Prim.Native.Nat.{ℕ, ◌+◌, ◌<◌, ◌≤◌}
 use native.Mathlib.Omega.{arith}
 use lib.ListN.{length, drop, length-drop}
-use lib.Dec.{eqb}
-use borrow.Author.Tests.{eqb-true}
 use Rattle.paper.specs.declared.Fed.{Fed}
 use Rattle.paper.specs.declared.Module.{Module}
 use Rattle.paper.specs.declared.Received.{Received}
@@ -21,6 +19,8 @@ use Rattle.laws_bytes.proofs.Tests.{by_test}
 use Rattle.laws_state.specs.Told.{fed}
 use Rattle.laws_telegrams.specs.Places.{Lies}
 use Rattle.laws_telegrams.proofs.Places.{receive_answers, lies_at}
+use Rattle.telegrams.specs.declared.Telegram.{Telegram}
+use Rattle.telegrams.specs.Found.{accepted}
 
 -- ---- each byte counts once at most
 
@@ -39,21 +39,11 @@ feed_counts g font s ds m piece =
     by_test (λ t. counts (cond t (run g font (fed_nothing Accepted s ds m) piece) (fed_nothing (feed_refusal g font s ds m) s ds m)) ≤ length piece)
     (is_accepted (feed_refusal g font s ds m)) (λ _. omega (arith, run-counts g font (fed_nothing Accepted s ds m) piece)) (λ _. omega arith)
 
--- ---- what a call has found lies in what it was given
-
-found_lies : (piece : List ℕ) (address : ℕ) {t : Received} → t ≡ receive_call piece address → is_accepted t.refusal ≡ true → Lies piece t
-unfolding is_accepted
-found_lies piece address e h =
-    let n = eqb-true _ _ (ap (λ (f : Received). eqb (refusal_number f.refusal) 0) (sym e) ∙ h) in
-    let f = (receive_answers piece address).found n in
-    subst (Lies piece) (sym (e ∙ f.is_found)) (lies_at piece f.place f.stands.is_good)
-
 -- ---- the loop
 
--- t is what the call from `at` on has found; as many telegrams and commands as bytes at most
-pub record Goes (address : ℕ) (link : List ℕ) (telegrams carried answered at : ℕ) (t : Received) : Type 0 where
+-- as many telegrams and commands as bytes at most
+pub record Goes (link : List ℕ) (telegrams carried answered at : ℕ) : Type 0 where
   pub inside : at ≤ length link
-  pub is_next : t ≡ receive_call (drop at link) address
   pub many : telegrams ≤ at
   pub counted : carried + answered ≤ at
 
@@ -64,18 +54,24 @@ pub record Ahead (link : List ℕ) (at : ℕ) (t : Received) : Type 0 where
   pub after : at + t.after ≤ length link
   pub as_many : length (data_of (drop at link) t) ≡ t.count
 
-module _ {address : ℕ} {link : List ℕ} {telegrams carried answered at : ℕ} {t : Received} (g : Goes address link telegrams carried answered at t)
-    (h : is_accepted t.refusal ≡ true) where
-  pub ahead : Ahead link at t
-  ahead =
-      let l = found_lies (drop at link) address g.is_next h in
-      let n = length-drop at link in
-      record {
-        inside = omega (arith, l.after, l.inside);
-        longer = omega (arith, l.after);
-        after = omega (arith, l.inside, n, g.inside);
-        as_many = l.as_many;
-      }
+-- what a call has found lies in what it was given
+found_lies : (piece : List ℕ) (address : ℕ) (t : Telegram) → accepted t ≡ receive_call piece address → Lies piece (accepted t)
+unfolding refusal_number
+found_lies piece address t e =
+    let f = (receive_answers piece address).found (ap (λ (f : Received). refusal_number f.refusal) (sym e)) in
+    subst (Lies piece) (sym (e ∙ f.is_found)) (lies_at piece f.place f.stands.is_good)
+
+pub ahead : (address : ℕ) (link : List ℕ) (at : ℕ) (t : Telegram) → at ≤ length link → accepted t ≡ receive_call (drop at link) address
+    → Ahead link at (accepted t)
+ahead address link at t i e =
+    let l = found_lies (drop at link) address t e in
+    let n = length-drop at link in
+    record {
+      inside = omega (arith, l.after, l.inside);
+      longer = omega (arith, l.after);
+      after = omega (arith, l.inside, n, i);
+      as_many = l.as_many;
+    }
 
 -- what its feed counts
 pub few : (g : Module) (font : List ℕ) (s : State) (ds m piece : List ℕ) {ds₁ m₁ link : List ℕ} {at : ℕ} {f : Fed} {t : Received}

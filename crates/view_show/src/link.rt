@@ -1,9 +1,8 @@
 // A recorded link, fed to a panel at an address: its telegrams for the address, or for all, one after the other. Each one's data are fed
 // from where they lie in the link, and each call reads on behind what the one before has found.
 ghost use Rattle.std.specs.Prelude.{◌≡◌, ◌≤◌, length, drop};
-ghost use Rattle.paper.specs.Calls.{is_accepted};
 
-use paper::{Received, State};
+use paper::State;
 
 // What became of the telegrams: the panel's state, how many they were, commands carried out, and those answered 11 to 19.
 #[derive(Clone, Copy)]
@@ -12,14 +11,6 @@ pub struct Taken {
     pub telegrams: usize,
     pub carried: usize,
     pub answered: usize,
-}
-
-// Whether a call has found a telegram.
-fn is_found(t: Received) -> bool
-    ensures { result ≡ is_accepted t.refusal }
-{
-    let refusal = t.refusal;
-    numbers::refusal_number(refusal) == 0
 }
 
 // What lies from a place on.
@@ -44,8 +35,7 @@ pub fn feed(
     let mut carried = 0;
     let mut answered = 0;
     let mut at = 0;
-    let mut t = telegrams::find(link, address);
-    while is_found(t) {
+    while let Ok(t) = telegrams::find(rest(link, at), address) {
         let f = panel::feed(
             mem,
             store,
@@ -58,7 +48,6 @@ pub fn feed(
         carried = carried + f.carried;
         answered = answered + f.answered;
         at = at + t.after;
-        t = telegrams::find(rest(link, at), address);
     }
     Taken {
         state,

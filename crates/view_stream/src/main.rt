@@ -3,6 +3,7 @@
 // Standard input has the font's 1,120 bytes and then the stream or link.
 #![tactic(auto)]
 
+use paper::Refusal;
 use std::env::Env;
 use std::io::{Eprint, Print};
 use std::{io, str};
@@ -20,9 +21,7 @@ fn number(word: &[u8]) -> Option<u8> {
 
 // Whether a call takes an address: one over no bytes finds nothing, but refuses a wrong address.
 fn is_taken(address: usize) -> bool {
-    let found = telegrams::find(b"", address);
-    let refusal = found.refusal;
-    numbers::refusal_number(refusal) != 20
+    !matches!(telegrams::find(b"", address), Err(Refusal::NoSuchAddress))
 }
 
 // The address that a number says. From here on the input is a link at this address.

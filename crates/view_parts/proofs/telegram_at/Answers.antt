@@ -15,7 +15,8 @@ bounds-link-place g c =
 
 pub fed_end-requires : goal.fed_end-requires
 fed_end-requires g c =
-    rw c.found-t.ensures (omega arith)
+    let e = c.found-t.ensures in
+    omega (arith, ap (λ (t : Received). t.first) e, ap (λ (t : Received). t.count) e, ap (λ (t : Received). t.after) e)
 
 pub slice_bounds-bytes-end : goal.slice_bounds-bytes-end
 slice_bounds-bytes-end g c =

@@ -7,7 +7,7 @@ use Rattle.view_show.proofs.link.feed.Given as goal
 
 abbrev pub invariant-loop-t : goal.invariant-loop-t
 invariant-loop-t l =
-    (length l.mem ≡ length l.initial.mem) × (length l.store ≡ length l.initial.store) × Goes l.address l.link l.telegrams l.carried l.answered l.at l.t
+    (length l.mem ≡ length l.initial.mem) × (length l.store ≡ length l.initial.store) × Goes l.link l.telegrams l.carried l.answered l.at
 
 abbrev pub decreases-loop-t : goal.decreases-loop-t
 decreases-loop-t l =
