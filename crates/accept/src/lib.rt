@@ -7,23 +7,20 @@
 ghost use Rattle.std.specs.Prelude.{◌≡◌};
 ghost use Rattle.paper.specs.Bounds.{hold_ok, span_ok, spans_ok, state_ok, accepted};
 
-use paper::{Hold, Module, Span, Spans, State, Window};
+use paper::{Held, Module, Span, Spans, State, Window};
 
 // While held: the held window is the selected one, and what the release puts back may be put back.
 #[tactic(auto, unfolding(paper::specs::Bounds::hold_ok))]
-fn hold_ok(g: Module, ws: [Window; 4], selected: u8, hold: Hold) -> bool
+fn hold_ok(g: Module, ws: [Window; 4], selected: u8, hold: Option<Held>) -> bool
     ensures { result ≡ hold_ok g ws selected hold }
 {
     match hold {
-        Hold::Free => true,
-        Hold::Held {
-            window,
-            selected: back,
-            settings,
-        } => {
-            let kept = accept_windows::selectable(ws, back)
-                & accept_settings::settings_ok(g, settings);
-            (1 <= window) & ((window == selected) & (accept_windows::selectable(ws, window) & kept))
+        None => true,
+        Some(held) => {
+            let kept = accept_windows::selectable(ws, held.selected)
+                & accept_settings::settings_ok(g, held.settings);
+            (1 <= held.window)
+                & ((held.window == selected) & (accept_windows::selectable(ws, held.window) & kept))
         }
     }
 }

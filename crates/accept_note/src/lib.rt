@@ -5,7 +5,7 @@
 ghost use Rattle.std.specs.Prelude.{◌≡◌};
 ghost use Rattle.paper.specs.Bounds.{all_stored, note_ok, half_note_ok, define_ok};
 
-use paper::{Batch, Half, Hold};
+use paper::{Batch, Half, Held};
 
 // Each code from `first` to the one before `code` is stored.
 fn all_stored(ds: &[u8], first: u8, code: u8) -> bool
@@ -40,11 +40,11 @@ fn half_note_ok(ds: &[u8], half: Half) -> bool
 
 // While held, nothing is stored and the note says nothing.
 #[tactic(auto, unfolding(paper::specs::Bounds::define_ok))]
-pub fn define_ok(ds: &[u8], hold: Hold, half: Half) -> bool
+pub fn define_ok(ds: &[u8], hold: Option<Held>, half: Half) -> bool
     ensures { result ≡ define_ok ds.now hold half }
 {
     match hold {
-        Hold::Free => half_note_ok(ds, half),
-        Hold::Held { .. } => true,
+        None => half_note_ok(ds, half),
+        Some(_) => true,
     }
 }

@@ -1,6 +1,7 @@
 -- Number 8 by a record's bytes: they stand for a state that is not accepted exactly if they are no accepted state's record.
 -- Assumes nothing.
 use mathlib.Core.Path.{◌≡◌, refl, sym, ap, ap₂, ◌∙◌}
+use Rattle.std.specs.Prelude.{Option, None, Some}
 use mathlib.Core.Logic.{◌↔◌}
 use mathlib.Core.Bool.{true, false, and-eq-true_iff, true≢false}
 use mathlib.Core.List.{List, [], ◌∷◌}
@@ -10,8 +11,7 @@ use lib.ListN.{length, get_or}
 use borrow.Author.Tests.{lt-leb}
 use Rattle.paper.specs.declared.Window.{Window}
 use Rattle.paper.specs.declared.Span.{Span}
-use Rattle.paper.specs.declared.Hold.{Hold}
-use Rattle.paper.specs.declared.Hold.TheVariants.{Free, Held}
+use Rattle.paper.specs.declared.Held.{Held}
 use Rattle.paper.specs.declared.State.{State}
 use Rattle.paper.specs.Panel.{panel}
 use Rattle.paper.specs.Strokes.{no_span}
@@ -61,10 +61,10 @@ select_same ws (suc (suc (suc zero))) = refl
 select_same ws (suc (suc (suc (suc zero)))) = refl
 select_same ws (suc (suc (suc (suc (suc k))))) = rw (lt-leb (suc (suc (suc (suc (suc k))))) 4 (omega arith))
 
-hold_same : (ws : List Window) (n : ℕ) (h : Hold) → hold_ok panel (four ws) n h ≡ hold_ok panel ws n h
+hold_same : (ws : List Window) (n : ℕ) (h : Option Held) → hold_ok panel (four ws) n h ≡ hold_ok panel ws n h
 unfolding hold_ok
-hold_same ws n Free = refl
-hold_same ws n (Held k back v) = rw (select_same ws k, select_same ws back)
+hold_same ws n None = refl
+hold_same ws n (Some x) = rw (select_same ws x.window, select_same ws x.selected)
 
 two_ok : (ps : List Span) → spans_ok panel ps ≡ true → spans_ok panel (two ps) ≡ true
 unfolding span_ok

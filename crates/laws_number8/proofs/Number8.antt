@@ -1,5 +1,6 @@
 -- Number 8 is given exactly if a clause of its row holds: `number-8`. Assumes nothing.
 use mathlib.Core.Path.{◌≡◌, refl, sym, ap, ◌∙◌}
+use Rattle.std.specs.Prelude.{Option, None, Some}
 use mathlib.Core.Bool.{Bool, true, false, cond, ◌&&◌, ◌||◌, true≢false}
 use mathlib.Core.List.{List, [], ◌∷◌}
 use mathlib.Core.Logic.{◌↔◌, ◌≢◌, ◌⊎◌, inl, inr}
@@ -13,13 +14,12 @@ use Rattle.paper.specs.declared.Settings.{Settings}
 use Rattle.paper.specs.declared.Cursor.{Cursor}
 use Rattle.paper.specs.declared.Window.{Window}
 use Rattle.paper.specs.declared.Span.{Span}
-use Rattle.paper.specs.declared.Hold.{Hold}
-use Rattle.paper.specs.declared.Hold.TheVariants.{Free, Held}
+use Rattle.paper.specs.declared.Held.{Held}
 use Rattle.paper.specs.declared.State.{State}
 use Rattle.paper.specs.Downloads.{width_at}
 use Rattle.paper.specs.Strokes.{no_span, span_of}
 use Rattle.paper.specs.Reading.{between}
-use Rattle.paper.specs.Settings.{in_domain, in_enlargement, no_window, is_defined, selectable, fits}
+use Rattle.paper.specs.Settings.{in_domain, in_enlargement, no_window, is_defined, selectable, fits, hold_of}
 use Rattle.paper.specs.Bounds.{settings_ok, cursor_ok, is_blank, window_ok, windows_ok, hold_ok, span_ok, spans_ok, half_ok, state_ok, store_ok, define_ok, accepted}
 use Rattle.laws_bytes.specs.Beginnings.{Fits}
 use Rattle.laws_bytes.proofs.Tests.{never, both_of, between_facts, between_true}
@@ -296,15 +296,15 @@ module _ (g : Module) (s : State) (ds : List ℕ) where
       (fails (half_ok g s.half) (λ e. half_impossible (λ b. true≢false (sym (begins_ok g b.begins) ∙ e)))
       (spans_out g s.spans (λ y e. let o = span_out g (span s y) e in span_wrong y o.0 o.1)))))))
     where
-      hold_out : (h : Hold) → s.hold ≡ h → hold_ok g s.windows s.selected h ≡ false → Breaks g s ds
-      hold_out Free q = λ e. absurd (true≢false e)
-      hold_out (Held k back v) q =
-          fails (leb 1 k)
-          (λ e. let m = leb-false 1 k e in undefined_held k back v q (λ d. let l = d.first in omega arith))
-          (fails (eqb k s.selected) (λ e. held_not_selected k back v q (eqb-false k s.selected e))
-          (fails (selectable s.windows k) (λ e. not-selectable g s ds k e (λ _ d. undefined_held k back v q d))
-          (fails (selectable s.windows back) (λ e. not-selectable g s ds back e (λ n d. undefined_saved k back v q n d))
-          (λ e. saved_setting_out k back v q (settings_out g v e)))))
+      hold_out : (h : Option Held) → s.hold ≡ h → hold_ok g s.windows s.selected h ≡ false → Breaks g s ds
+      hold_out None q = λ e. absurd (true≢false e)
+      hold_out (Some x) q =
+          fails (leb 1 x.window)
+          (λ e. let m = leb-false 1 x.window e in undefined_held x.window x.selected x.settings q (λ d. let l = d.first in omega arith))
+          (fails (eqb x.window s.selected) (λ e. held_not_selected x.window x.selected x.settings q (eqb-false x.window s.selected e))
+          (fails (selectable s.windows x.window) (λ e. not-selectable g s ds x.window e (λ _ d. undefined_held x.window x.selected x.settings q d))
+          (fails (selectable s.windows x.selected) (λ e. not-selectable g s ds x.selected e (λ n d. undefined_saved x.window x.selected x.settings q n d))
+          (λ e. saved_setting_out x.window x.selected x.settings q (settings_out g x.settings e)))))
 
   -- a clause holds if the test fails
   broken : accepted g s ds ≡ false → Breaks g s ds
@@ -338,7 +338,7 @@ module _ (g : Module) (s : State) (ds : List ℕ) where
     fits_in k d = fits_facts g _ _ _ _ (window_in k d).0
 
     -- what is held
-    held_in : (k back : ℕ) (v : Settings) → s.hold ≡ Held k back v → HeldWell g s.windows s.selected k back v
+    held_in : (k back : ℕ) (v : Settings) → s.hold ≡ hold_of k back v → HeldWell g s.windows s.selected k back v
     held_in k back v q = hold_facts g s.windows s.selected k back v (rw q at p.hold)
 
     none : Fits s.half → ¬ Breaks g s ds

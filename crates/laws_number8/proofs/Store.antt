@@ -1,5 +1,6 @@
 -- The downloads in number 8's row: a clause holds if their test fails, and what their test gives if it passes. Assumes nothing.
 use mathlib.Core.Path.{◌≡◌, refl, sym, ap, ◌∙◌}
+use Rattle.std.specs.Prelude.{Option, None, Some}
 use mathlib.Core.Bool.{Bool, true, false, cond, not, ◌&&◌, ◌||◌, true≢false}
 use mathlib.Core.List.{List}
 use mathlib.Core.Logic.{◌≢◌, ◌⊎◌, inl, inr, ⊎_elim}
@@ -13,8 +14,7 @@ use Rattle.paper.specs.declared.Module.{Module}
 use Rattle.paper.specs.declared.Batch.{Batch}
 use Rattle.paper.specs.declared.Half.{Half}
 use Rattle.paper.specs.declared.Half.TheVariants.{Nothing, Escape, Unit, Group, Actions, Images, Characters, Windows, Value, Rest, DownloadA, DownloadFrom, DownloadTo, GlyphWidth, GlyphByte, Low, High, ImageKind, ImageData, EnlargeX, EnlargeY, SelectA, WindowA, WindowB, EraseA, EraseCode}
-use Rattle.paper.specs.declared.Hold.{Hold}
-use Rattle.paper.specs.declared.Hold.TheVariants.{Free, Held}
+use Rattle.paper.specs.declared.Held.{Held}
 use Rattle.paper.specs.declared.State.{State}
 use Rattle.paper.specs.Downloads.{place_length, store_length, code_at, width_at, column_at, place, is_stored, is_full}
 use Rattle.paper.specs.Bounds.{is_free, download_ok, place_ok, store_ok, all_stored, note_ok, half_note_ok, define_ok}
@@ -89,7 +89,7 @@ module _ (g : Module) (s : State) (ds : List ℕ) where
       (λ n q. fails_below (place_ok ds) 16 (place_out (eqb-true (length ds) store_length n)) q)
 
   -- the note of a define
-  note_out : (d : Batch) (n : Bool) → s.hold ≡ Free → Defines s.half d n → note_ok ds d n ≡ false → Breaks g s ds
+  note_out : (d : Batch) (n : Bool) → s.hold ≡ None → Defines s.half d n → note_ok ds d n ≡ false → Breaks g s ds
   unfolding note_ok all_stored
   note_out d n h i e = go (all_stored ds d.first d.code) refl n i e where
     go : (t : Bool) → all_stored ds d.first d.code ≡ t → (n : Bool) → Defines s.half d n
@@ -107,7 +107,7 @@ module _ (g : Module) (s : State) (ds : List ℕ) where
         fails n (λ z. note_missing d (d.first + k) h (rw z at i) m) (λ z. define_missing d n (d.first + k) h i m z) e) q
 
   -- of what is half read
-  half_out : (p : Half) → s.hold ≡ Free → s.half ≡ p → half_note_ok ds p ≡ false → Breaks g s ds
+  half_out : (p : Half) → s.hold ≡ None → s.half ≡ p → half_note_ok ds p ≡ false → Breaks g s ds
   unfolding half_note_ok
   half_out Nothing h q e = absurd (true≢false e)
   half_out Escape h q e = absurd (true≢false e)
@@ -137,10 +137,10 @@ module _ (g : Module) (s : State) (ds : List ℕ) where
   half_out (EraseCode a) h q e = absurd (true≢false e)
 
   -- outside a hold
-  pub define_out : (h : Hold) → s.hold ≡ h → (p : Half) → s.half ≡ p → define_ok ds h p ≡ false → Breaks g s ds
+  pub define_out : (h : Option Held) → s.hold ≡ h → (p : Half) → s.half ≡ p → define_ok ds h p ≡ false → Breaks g s ds
   unfolding define_ok
-  define_out Free h p q e = half_out p h q e
-  define_out (Held k back v) h p q e = absurd (true≢false e)
+  define_out None h p q e = half_out p h q e
+  define_out (Some x) h p q e = absurd (true≢false e)
 
 -- ---- what the test gives if it passes
 
@@ -171,7 +171,7 @@ used ds k (inl n) e = n (eqb-true (column_at ds k 5) 0 (both_of (eqb (column_at 
 used ds k (inr n) e = n (eqb-true (column_at ds k 6) 0 (both_of (eqb (column_at ds k 5) 0) _ e).1)
 
 -- the note of a define that is half read outside a hold
-pub free_note : (s : State) (ds : List ℕ) → define_ok ds s.hold s.half ≡ true → s.hold ≡ Free → {d : Batch} {n : Bool}
+pub free_note : (s : State) (ds : List ℕ) → define_ok ds s.hold s.half ≡ true → s.hold ≡ None → {d : Batch} {n : Bool}
     → Defines s.half d n → note_ok ds d n ≡ true
 unfolding define_ok half_note_ok
 free_note s ds e h {d} {n} i = go s.half i (rw h at e) where

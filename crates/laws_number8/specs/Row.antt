@@ -1,7 +1,7 @@
 -- Row 8 of document 01's first table of numbers, clause by clause in its order, with the module's figures, and what document 02's
 -- order 2 adds to it: `Breaks g s ds`, ds being the downloads.
 -- That the paper's `accepted` fails exactly then is `number-8` in proofs/Number8. Assumes nothing.
-use Rattle.std.specs.Prelude.{◌≡◌, Bool, true, false, List, ◌≢◌, ◌⊎◌, ℕ, ◌+◌, ◌*◌, ◌-◌, ◌<◌, ◌≤◌, length, get_or}
+use Rattle.std.specs.Prelude.{◌≡◌, Bool, true, false, List, ◌≢◌, ◌⊎◌, ℕ, ◌+◌, ◌*◌, ◌-◌, ◌<◌, ◌≤◌, length, get_or, None}
 use Rattle.paper.specs.declared.Module.{Module}
 use Rattle.paper.specs.declared.Settings.{Settings}
 use Rattle.paper.specs.declared.Cursor.{Cursor}
@@ -11,11 +11,10 @@ use Rattle.paper.specs.declared.Batch.{Batch}
 use Rattle.paper.specs.declared.Columns.{Columns}
 use Rattle.paper.specs.declared.Half.{Half}
 use Rattle.paper.specs.declared.Half.TheVariants.{GlyphWidth, GlyphByte}
-use Rattle.paper.specs.declared.Hold.TheVariants.{Free, Held}
 use Rattle.paper.specs.declared.State.{State}
 use Rattle.paper.specs.Downloads.{place_length, store_length, code_at, width_at, column_at, is_stored, is_full}
 use Rattle.paper.specs.Strokes.{no_span}
-use Rattle.paper.specs.Settings.{no_window, window_at}
+use Rattle.paper.specs.Settings.{no_window, window_at, hold_of}
 use Rattle.laws_bytes.specs.Beginnings.{Beginning}
 
 -- ---- the words of the row
@@ -98,13 +97,13 @@ pub data Breaks (g : Module) (s : State) (ds : List ℕ) : Type 0 where
   setting_out : OutOfDomain g s.settings → Breaks g s ds
   mode_out : (k : ℕ) → Defined s k → NoMode (window s k).cursor → Breaks g s ds
   base_mode_out : NoMode s.base → Breaks g s ds
-  saved_setting_out : (k back : ℕ) (v : Settings) → s.hold ≡ Held k back v → OutOfDomain g v → Breaks g s ds
+  saved_setting_out : (k back : ℕ) (v : Settings) → s.hold ≡ hold_of k back v → OutOfDomain g v → Breaks g s ds
   -- "an undefined window selected, held or, while held, saved as selected": 0 selects the base, which can't be held
   undefined_selected : s.selected ≢ 0 → ¬ Defined s s.selected → Breaks g s ds
-  undefined_held : (k back : ℕ) (v : Settings) → s.hold ≡ Held k back v → ¬ Defined s k → Breaks g s ds
-  undefined_saved : (k back : ℕ) (v : Settings) → s.hold ≡ Held k back v → back ≢ 0 → ¬ Defined s back → Breaks g s ds
+  undefined_held : (k back : ℕ) (v : Settings) → s.hold ≡ hold_of k back v → ¬ Defined s k → Breaks g s ds
+  undefined_saved : (k back : ℕ) (v : Settings) → s.hold ≡ hold_of k back v → back ≢ 0 → ¬ Defined s back → Breaks g s ds
   -- "a held window that is not the selected one"
-  held_not_selected : (k back : ℕ) (v : Settings) → s.hold ≡ Held k back v → k ≢ s.selected → Breaks g s ds
+  held_not_selected : (k back : ℕ) (v : Settings) → s.hold ≡ hold_of k back v → k ≢ s.selected → Breaks g s ds
   -- "a span whose first exceeds its last or whose last exceeds 511"
   span_wrong : (y : ℕ) → span s y ≢ no_span → (last_of (span s y) < (span s y).first) ⊎ (g.columns ≤ last_of (span s y)) → Breaks g s ds
   -- "an impossible half-read command: one that is not a proper beginning of a command by the reading rules"
@@ -118,8 +117,8 @@ pub data Breaks (g : Module) (s : State) (ds : List ℕ) : Type 0 where
   -- of our record's form: a download of five columns has no sixth and no seventh
   column_unused : (k : ℕ) → Taken ds k → width_at ds k ≢ 7 → (column_at ds k 5 ≢ 0) ⊎ (column_at ds k 6 ≢ 0) → Breaks g s ds
   -- "outside a hold, a half-read define of which a code read to its last byte is not stored while fewer than 16 are"
-  define_missing : (d : Batch) (n : Bool) (c : ℕ) → s.hold ≡ Free → Defines s.half d n → Missing ds d c → is_full ds ≡ false
+  define_missing : (d : Batch) (n : Bool) (c : ℕ) → s.hold ≡ None → Defines s.half d n → Missing ds d c → is_full ds ≡ false
       → Breaks g s ds
   -- "or whose note of a drop says other than that such a code is not stored"
-  note_missing : (d : Batch) (c : ℕ) → s.hold ≡ Free → Defines s.half d false → Missing ds d c → Breaks g s ds
-  note_wrong : (d : Batch) → s.hold ≡ Free → Defines s.half d true → ((c : ℕ) → ¬ Missing ds d c) → Breaks g s ds
+  note_missing : (d : Batch) (c : ℕ) → s.hold ≡ None → Defines s.half d false → Missing ds d c → Breaks g s ds
+  note_wrong : (d : Batch) → s.hold ≡ None → Defines s.half d true → ((c : ℕ) → ¬ Missing ds d c) → Breaks g s ds

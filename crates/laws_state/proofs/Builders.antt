@@ -1,5 +1,6 @@
 -- Each way in which a state is made anew keeps every part of an accepted one. Assumes nothing.
 use mathlib.Core.Path.{◌≡◌, refl}
+use Rattle.std.specs.Prelude.{Option, None, Some}
 use mathlib.Core.Bool.{Bool, true, false, cond, ◌&&◌, true≢false, or-true}
 use mathlib.Core.List.{List, [], ◌∷◌}
 use Prim.Native.Nat.{ℕ, zero, suc, ◌-◌, ◌≤◌}
@@ -14,8 +15,7 @@ use Rattle.paper.specs.declared.Cursor.{Cursor}
 use Rattle.paper.specs.declared.Window.{Window}
 use Rattle.paper.specs.declared.Span.{Span}
 use Rattle.paper.specs.declared.Half.{Half}
-use Rattle.paper.specs.declared.Hold.{Hold}
-use Rattle.paper.specs.declared.Hold.TheVariants.{Free, Held}
+use Rattle.paper.specs.declared.Held.{Held}
 use Rattle.paper.specs.declared.State.{State}
 use Rattle.paper.specs.Reading.{between}
 use Rattle.paper.specs.Settings.{with_settings, with_base, with_selected, with_half, with_spans, no_window, window_at, is_defined, selectable, defined, cancelled, with_cursor, at_cursor, inside_window}
@@ -71,20 +71,20 @@ selectable_other ws k j w l n e = go (eqb j 0) refl e where
 -- ---- holding
 
 -- while nothing is held there is nothing to test
-pub free_ok : (g : Module) (ws : List Window) (selected : ℕ) (h : Hold) → is_held h ≡ false → hold_ok g ws selected h ≡ true
+pub free_ok : (g : Module) (ws : List Window) (selected : ℕ) (h : Option Held) → is_held h ≡ false → hold_ok g ws selected h ≡ true
 unfolding hold_ok is_held
-free_ok g ws selected Free e = refl
-free_ok g ws selected (Held k back v) e = absurd (true≢false e)
+free_ok g ws selected None e = refl
+free_ok g ws selected (Some x) e = absurd (true≢false e)
 
 -- what is held stays so after a define
-pub hold_set : (g : Module) (ws : List Window) (selected i : ℕ) (w : Window) (h : Hold) → is_defined w ≡ true → hold_ok g ws selected h ≡ true
+pub hold_set : (g : Module) (ws : List Window) (selected i : ℕ) (w : Window) (h : Option Held) → is_defined w ≡ true → hold_ok g ws selected h ≡ true
     → hold_ok g (set ws i w) selected h ≡ true
 unfolding hold_ok
-hold_set g ws selected i w Free d e = refl
-hold_set g ws selected i w (Held k back v) d e =
-    let f = hold_facts g ws selected k back v e in
-    hold_true g (set ws i w) selected k back v
-    (f.0, f.1, selectable-set ws i k w d f.2, selectable-set ws i back w d f.3, f.4)
+hold_set g ws selected i w None d e = refl
+hold_set g ws selected i w (Some x) d e =
+    let f = hold_facts g ws selected x.window x.selected x.settings e in
+    hold_true g (set ws i w) selected x.window x.selected x.settings
+    (f.0, f.1, selectable-set ws i x.window w d f.2, selectable-set ws i x.selected w d f.3, f.4)
 
 -- ---- windows
 

@@ -1,5 +1,6 @@
 -- Every call leaves an accepted state, with its downloads, accepted. Assumes nothing.
 use mathlib.Core.Path.{◌≡◌, refl}
+use Rattle.std.specs.Prelude.{Option, None, Some}
 use mathlib.Core.Bool.{true}
 use mathlib.Core.List.{List, [], ◌∷◌}
 use Prim.Native.Nat.{ℕ}
@@ -8,15 +9,14 @@ use lib.ListN.{length, replicate}
 use borrow.Author.Tests.{le-leb, ne_eqb}
 use Rattle.paper.specs.declared.Module.{Module}
 use Rattle.paper.specs.declared.Span.{Span}
-use Rattle.paper.specs.declared.Hold.{Hold}
-use Rattle.paper.specs.declared.Hold.TheVariants.{Free, Held}
+use Rattle.paper.specs.declared.Held.{Held}
 use Rattle.paper.specs.declared.Refusal.TheVariants.{Accepted}
 use Rattle.paper.specs.declared.State.{State}
 use Rattle.paper.specs.declared.Answer.{Answer}
 use Rattle.paper.specs.Downloads.{store_length, all_erased}
 use Rattle.paper.specs.Reading.{between}
 use Rattle.paper.specs.Strokes.{no_span}
-use Rattle.paper.specs.Settings.{initial_state, with_spans, window_at, is_defined, selectable}
+use Rattle.paper.specs.Settings.{initial_state, with_spans, window_at, is_defined, selectable, hold_of}
 use Rattle.paper.specs.Bounds.{hold_ok, spans_ok, half_ok, accepted}
 use Rattle.paper.specs.Cells.{erase_stroke}
 use Rattle.paper.specs.Calls.{is_accepted, start_refusal, Starting, started, start_call, feed_refusal, Feeding, fed_nothing, feed_call, hold_refusal, held_by, hold_call, release_refusal, put_back, released, release_call, refresh_refusal, Refreshing, emptied, refresh_call}
@@ -39,7 +39,7 @@ module _ (g : Module) (u : Usable g) where
       → accepted g (with_spans (initial_state g) ps) (all_erased ds) ≡ true
   unfolding initial_state
   fresh-accepted ps ds h n =
-      accepted_whole g _ _ (whole g _ (initial_parts g u ps h)) (none_ok ds n) (define-nothing (all_erased ds) Free)
+      accepted_whole g _ _ (whole g _ (initial_parts g u ps h)) (none_ok ds n) (define-nothing (all_erased ds) None)
 
   -- the initial state
   pub initial_accepted : (ds : List ℕ) → length ds ≡ store_length → accepted g (initial_state g) (all_erased ds) ≡ true
@@ -74,16 +74,16 @@ module _ (g : Module) (s : State) (ds : List ℕ) (h : accepted g s ds ≡ true)
         half = refl;
         spans = p.spans;
       }))
-      a.1 (define-nothing ds (Held k s.selected s.settings))
+      a.1 (define-nothing ds (hold_of k s.selected s.settings))
 
   -- what release gives, by what is held
-  back_accepted : (q : Hold) → hold_ok g s.windows s.selected q ≡ true → accepted g (put_back s q) ds ≡ true
+  back_accepted : (q : Option Held) → hold_ok g s.windows s.selected q ≡ true → accepted g (put_back s q) ds ≡ true
   unfolding hold_ok half_ok
-  back_accepted Free e = h
-  back_accepted (Held k back v) e =
+  back_accepted None e = h
+  back_accepted (Some x) e =
       let a = accepted_parts g s ds h in
       let p = parts g s a.0 in
-      let f = hold_facts g s.windows s.selected k back v e in
+      let f = hold_facts g s.windows s.selected x.window x.selected x.settings e in
       accepted_whole g _ _
       (whole g _
       (record {
@@ -95,7 +95,7 @@ module _ (g : Module) (s : State) (ds : List ℕ) (h : accepted g s ds ≡ true)
         half = refl;
         spans = p.spans;
       }))
-      a.1 (define-nothing ds Free)
+      a.1 (define-nothing ds None)
 
   -- what release gives
   pub released-accepted : accepted g (released s) ds ≡ true

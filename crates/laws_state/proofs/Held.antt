@@ -1,6 +1,7 @@
 -- A guest's bytes stay in the window that is held: nothing else of the state changes hands, and no cell outside is written.
 -- Assumes nothing.
 use mathlib.Core.Path.{◌≡◌, refl, sym, ap, subst, ◌∙◌}
+use Rattle.std.specs.Prelude.{Option}
 use mathlib.Core.Bool.{true, false, true≢false}
 use mathlib.Core.List.{List, [], ◌∷◌}
 use Prim.Native.Nat.{ℕ, zero, suc, ◌-◌, ◌<◌, ◌≤◌}
@@ -15,15 +16,14 @@ use Rattle.paper.specs.declared.Cursor.{Cursor}
 use Rattle.paper.specs.declared.Window.{Window}
 use Rattle.paper.specs.declared.View.{View}
 use Rattle.paper.specs.declared.Half.TheVariants.{Nothing}
-use Rattle.paper.specs.declared.Hold.{Hold}
-use Rattle.paper.specs.declared.Hold.TheVariants.{Held}
+use Rattle.paper.specs.declared.Held.{Held}
 use Rattle.paper.specs.declared.Command.{Command}
 use Rattle.paper.specs.declared.Command.TheVariants.{Character, Back, Tab, LineFeed, Home, Clear, Return, Select, Initialise, Mode, Set, Enlarge, CursorSet, Define, Cancel, Uncarried, Erase}
 use Rattle.paper.specs.declared.Refusal.TheVariants.{Accepted}
 use Rattle.paper.specs.declared.State.{State}
 use Rattle.paper.specs.Downloads.{Faces, faces}
 use Rattle.paper.specs.Strokes.{Stroke}
-use Rattle.paper.specs.Settings.{no_window, with_half, window_at, with_cursor, at_cursor, in_mode, view_of}
+use Rattle.paper.specs.Settings.{no_window, with_half, window_at, with_cursor, at_cursor, in_mode, view_of, hold_of}
 use Rattle.paper.specs.Bounds.{hold_ok, half_ok, state_ok}
 use Rattle.paper.specs.Moves.{Moved}
 use Rattle.paper.specs.Cells.{range_of}
@@ -168,7 +168,7 @@ module _ (g : Module) (k back : ℕ) (v : Settings) (s : State) (ds : List ℕ) 
   -- the window held is the selected one, and not the base
   pub is_selected : (1 ≤ k) × (k ≡ s.selected)
   is_selected =
-      let ok = subst (λ (q : Hold). hold_ok g s.windows s.selected q ≡ true) i.held (parts g s holding_state).hold in
+      let ok = subst (λ (q : Option Held). hold_ok g s.windows s.selected q ≡ true) i.held (parts g s holding_state).hold in
       let f = hold_facts g s.windows s.selected k back v ok in
       (f.0, f.1)
 
@@ -308,7 +308,7 @@ module _ (g : Module) (u : Usable g) (font : List ℕ) (k back : ℕ) (v : Setti
       by_cond (λ (q : Feeding). Guest k back v s q.answer.state) (is_accepted (feed_refusal g font s ds m))
       (λ _. run_guest (fed_nothing Accepted s ds m) piece i) (λ _. no_guest g k back v s ds i)
 
-  module _ (s : State) (ds m piece : List ℕ) (h : s.hold ≡ Held k back v) where
+  module _ (s : State) (ds m piece : List ℕ) (h : s.hold ≡ hold_of k back v) where
     -- one that is not refused begins with an accepted state
     given : is_accepted (feed_refusal g font s ds m) ≡ true → Holding g k back v s ds
     given e = record { accepts = (feed_given g font s ds m e).2; held = h }

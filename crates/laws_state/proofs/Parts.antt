@@ -1,5 +1,6 @@
 -- An accepted state taken apart and put together, and the facts that its tests stand for. Assumes nothing.
 use mathlib.Core.Path.{◌≡◌, refl}
+use Rattle.paper.specs.declared.Held.{Held}
 use mathlib.Core.Bool.{Bool, true, false, cond, ◌&&◌, ◌||◌}
 use mathlib.Core.List.{List}
 use Prim.Native.Nat.{ℕ, zero, suc, ◌+◌, ◌<◌, ◌≤◌}
@@ -10,10 +11,9 @@ use Rattle.paper.specs.declared.Module.{Module}
 use Rattle.paper.specs.declared.Settings.{Settings}
 use Rattle.paper.specs.declared.Cursor.{Cursor}
 use Rattle.paper.specs.declared.Window.{Window}
-use Rattle.paper.specs.declared.Hold.TheVariants.{Held}
 use Rattle.paper.specs.declared.State.{State}
 use Rattle.paper.specs.Reading.{between}
-use Rattle.paper.specs.Settings.{window_at, is_defined, selectable, fits, inside_window}
+use Rattle.paper.specs.Settings.{window_at, is_defined, selectable, fits, inside_window, hold_of}
 use Rattle.paper.specs.Bounds.{settings_ok, cursor_ok, is_blank, window_ok, windows_ok, hold_ok, spans_ok, half_ok, state_ok}
 use Rattle.laws_bytes.proofs.Tests.{both_of, between_facts, between_true}
 use Rattle.laws_state.specs.Parts.{Parts}
@@ -202,7 +202,7 @@ HeldWell g ws selected k back v =
 
 module _ (g : Module) (ws : List Window) (selected k back : ℕ) (v : Settings) where
   -- the hold's test says so
-  pub hold_facts : hold_ok g ws selected (Held k back v) ≡ true → HeldWell g ws selected k back v
+  pub hold_facts : hold_ok g ws selected (hold_of k back v) ≡ true → HeldWell g ws selected k back v
   unfolding hold_ok
   hold_facts e =
       let some = both_of (leb 1 k) _ e in
@@ -212,6 +212,6 @@ module _ (g : Module) (ws : List Window) (selected k back : ℕ) (v : Settings) 
       (leb-true 1 k some.0, eqb-true k selected same.0, held.0, saved.0, saved.1)
 
   -- and back
-  pub hold_true : HeldWell g ws selected k back v → hold_ok g ws selected (Held k back v) ≡ true
+  pub hold_true : HeldWell g ws selected k back v → hold_ok g ws selected (hold_of k back v) ≡ true
   unfolding hold_ok
   hold_true f = rw (le-leb 1 k f.0, eq-eqb k selected f.1, f.2, f.3, f.4)

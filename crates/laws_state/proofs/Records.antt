@@ -1,5 +1,6 @@
 -- Every byte leaves an accepted record accepted: its state, its downloads, and the note of its half-read define. Assumes nothing.
 use mathlib.Core.Path.{◌≡◌, refl, ap, ◌∙◌}
+use Rattle.std.specs.Prelude.{Option, None, Some}
 use mathlib.Core.Bool.{Bool, true, false, true≢false}
 use mathlib.Core.List.{List, [], ◌∷◌}
 use Prim.Native.Nat.{ℕ}
@@ -9,8 +10,7 @@ use Rattle.paper.specs.declared.Batch.{Batch}
 use Rattle.paper.specs.declared.Columns.{Columns}
 use Rattle.paper.specs.declared.Half.{Half}
 use Rattle.paper.specs.declared.Half.TheVariants.{Nothing, GlyphWidth}
-use Rattle.paper.specs.declared.Hold.{Hold}
-use Rattle.paper.specs.declared.Hold.TheVariants.{Free, Held}
+use Rattle.paper.specs.declared.Held.{Held}
 use Rattle.paper.specs.declared.Command.{Command}
 use Rattle.paper.specs.declared.Command.TheVariants.{Character, Back, Tab, LineFeed, Home, Clear, Return, Select, Initialise, Mode, Set, Enlarge, CursorSet, Define, Cancel, Uncarried, Erase}
 use Rattle.paper.specs.declared.Reading.{Reading}
@@ -50,18 +50,18 @@ module _ (g : Module) (s : State) (ds : List ℕ) where
   accepted_whole a b c = rw (a, b, c)
 
 -- the note counts outside a hold only
-define-outside : (ds : List ℕ) (h : Hold) (p : Half) → (is_held h ≡ false → half_note_ok ds p ≡ true) → define_ok ds h p ≡ true
+define-outside : (ds : List ℕ) (h : Option Held) (p : Half) → (is_held h ≡ false → half_note_ok ds p ≡ true) → define_ok ds h p ≡ true
 unfolding define_ok is_held
-define-outside ds Free p f = f refl
-define-outside ds (Held k back v) p f = refl
+define-outside ds None p f = f refl
+define-outside ds (Some x) p f = refl
 
-pub outside-define : (ds : List ℕ) (h : Hold) (p : Half) → define_ok ds h p ≡ true → is_held h ≡ false → half_note_ok ds p ≡ true
+pub outside-define : (ds : List ℕ) (h : Option Held) (p : Half) → define_ok ds h p ≡ true → is_held h ≡ false → half_note_ok ds p ≡ true
 unfolding define_ok is_held
-outside-define ds Free p e n = e
-outside-define ds (Held k back v) p e n = absurd (true≢false n)
+outside-define ds None p e n = e
+outside-define ds (Some x) p e n = absurd (true≢false n)
 
 -- nothing half read has none
-pub define-nothing : (ds : List ℕ) (h : Hold) → define_ok ds h Nothing ≡ true
+pub define-nothing : (ds : List ℕ) (h : Option Held) → define_ok ds h Nothing ≡ true
 unfolding half_note_ok
 define-nothing ds h = define-outside ds h Nothing (λ _. refl)
 

@@ -1,5 +1,6 @@
 -- No byte and no call changes how many windows and spans there are. Assumes nothing.
 use mathlib.Core.Path.{◌≡◌, refl, ap, ◌∙◌}
+use Rattle.std.specs.Prelude.{Option, None, Some}
 use mathlib.Core.List.{List, [], ◌∷◌}
 use Prim.Native.Nat.{ℕ, ◌-◌}
 use lib.Dec.{eqb}
@@ -8,8 +9,7 @@ use Rattle.paper.specs.declared.Module.{Module}
 use Rattle.paper.specs.declared.Cursor.{Cursor}
 use Rattle.paper.specs.declared.Window.{Window}
 use Rattle.paper.specs.declared.Half.TheVariants.{Nothing}
-use Rattle.paper.specs.declared.Hold.{Hold}
-use Rattle.paper.specs.declared.Hold.TheVariants.{Free, Held}
+use Rattle.paper.specs.declared.Held.{Held}
 use Rattle.paper.specs.declared.Refusal.TheVariants.{Accepted}
 use Rattle.paper.specs.declared.Answer.{Answer}
 use Rattle.paper.specs.declared.Command.{Command}
@@ -135,9 +135,9 @@ module _ (g : Module) where
         (λ _. record { windows = z.windows; spans = z.spans }) (λ _. z)
 
     -- what release puts back
-    back_sized : (h : Hold) → Sized g (put_back s h)
-    back_sized Free = z
-    back_sized (Held k back v) = record { windows = z.windows; spans = z.spans }
+    back_sized : (h : Option Held) → Sized g (put_back s h)
+    back_sized None = z
+    back_sized (Some x) = record { windows = z.windows; spans = z.spans }
 
     -- release
     pub release_sized : Sized g (release_call g s ds).state

@@ -3,22 +3,21 @@ use Rattle.std.specs.Prelude.{◌≡◌, true, false, List, ℕ, ◌<◌, ◌≤
 use Rattle.paper.specs.declared.Module.{Module}
 use Rattle.paper.specs.declared.Rect.{Rect}
 use Rattle.paper.specs.declared.Settings.{Settings}
-use Rattle.paper.specs.declared.Hold.TheVariants.{Held}
 use Rattle.paper.specs.declared.State.{State}
 use Rattle.paper.specs.declared.Window.{Window}
 use Rattle.paper.specs.Strokes.{rect_at, in_rect}
-use Rattle.paper.specs.Settings.{window_at}
+use Rattle.paper.specs.Settings.{window_at, hold_of}
 use Rattle.paper.specs.Bounds.{accepted}
 
 -- an accepted state, with its downloads, in which window k is held, `back` saved as selected and `v` as settings
 pub record Holding (g : Module) (k back : ℕ) (v : Settings) (s : State) (ds : List ℕ) : Type 0 where
   pub accepts : accepted g s ds ≡ true
-  pub held : s.hold ≡ Held k back v
+  pub held : s.hold ≡ hold_of k back v
 
 -- state r after a guest's bytes in state s: the hold, the selection, the base cursor and every other window are as they were,
 -- and window k has its rectangle and its cursor in it
 pub record Guest (k back : ℕ) (v : Settings) (s r : State) : Type 0 where
-  pub hold : r.hold ≡ Held k back v
+  pub hold : r.hold ≡ hold_of k back v
   pub selected : r.selected ≡ k
   pub base : r.base ≡ s.base
   pub others : (j : ℕ) → 1 ≤ j → (j ≡ k → ⊥) → window_at r.windows j ≡ window_at s.windows j

@@ -1,6 +1,6 @@
 -- Document 01, number 8: which state records are accepted. "Given exactly when the state record breaks a bound of this paper."
 -- Assumes nothing.
-use Rattle.std.specs.Prelude.{ℕ, zero, suc, ◌+◌, ◌*◌, ◌-◌, Bool, true, cond, not, ◌&&◌, ◌||◌, List, [], ◌∷◌, length, get_or, leb, ltb, eqb}
+use Rattle.std.specs.Prelude.{ℕ, zero, suc, ◌+◌, ◌*◌, ◌-◌, Bool, true, cond, not, ◌&&◌, ◌||◌, List, [], ◌∷◌, length, get_or, leb, ltb, eqb, Option, None, Some}
 use Rattle.paper.specs.declared.Module.{Module}
 use Rattle.paper.specs.declared.Settings.{Settings}
 use Rattle.paper.specs.declared.Cursor.{Cursor}
@@ -13,8 +13,7 @@ use Rattle.paper.specs.declared.Batch.{Batch}
 use Rattle.paper.specs.declared.Columns.{Columns}
 use Rattle.paper.specs.declared.Half.{Half}
 use Rattle.paper.specs.declared.Half.TheVariants.{Nothing, Escape, Unit, Group, Actions, Images, Characters, Windows, Value, Rest, DownloadA, DownloadFrom, DownloadTo, GlyphWidth, GlyphByte, Low, High, ImageKind, ImageData, EnlargeX, EnlargeY, SelectA, WindowA, WindowB, EraseA, EraseCode}
-use Rattle.paper.specs.declared.Hold.{Hold}
-use Rattle.paper.specs.declared.Hold.TheVariants.{Free, Held}
+use Rattle.paper.specs.declared.Held.{Held}
 use Rattle.paper.specs.declared.State.{State}
 use Rattle.paper.specs.Downloads.{place_length, store_length, code_at, width_at, column_at, place, is_stored, is_full}
 use Rattle.paper.specs.Reading.{between, is_known}
@@ -60,10 +59,11 @@ windows_ok g ws =
 
 -- "while held, a saved [setting] outside its domain, an undefined window held or saved as selected, a held window that is not the
 -- selected one"
-unfoldable pub hold_ok : Module → List Window → ℕ → Hold → Bool
-hold_ok g ws selected Free = true
-hold_ok g ws selected (Held k back v) =
-    leb 1 k && (eqb k selected && (selectable ws k && (selectable ws back && settings_ok g v)))
+unfoldable pub hold_ok : Module → List Window → ℕ → Option Held → Bool
+hold_ok g ws selected None = true
+hold_ok g ws selected (Some h) =
+    leb 1 h.window
+    && (eqb h.window selected && (selectable ws h.window && (selectable ws h.selected && settings_ok g h.settings)))
 
 -- "a span whose first exceeds its last or whose last exceeds 511"; nothing is 0 and 0
 unfoldable pub span_ok : Module → Span → Bool
@@ -203,9 +203,9 @@ half_note_ok ds EraseA = true
 half_note_ok ds (EraseCode a) = true
 
 -- "outside a hold"
-unfoldable pub define_ok : List ℕ → Hold → Half → Bool
-define_ok ds Free p = half_note_ok ds p
-define_ok ds (Held k back v) p = true
+unfoldable pub define_ok : List ℕ → Option Held → Half → Bool
+define_ok ds None p = half_note_ok ds p
+define_ok ds (Some h) p = true
 
 -- the whole record: a state and its downloads
 unfoldable pub accepted : Module → State → List ℕ → Bool

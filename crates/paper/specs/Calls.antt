@@ -1,11 +1,10 @@
 -- The five calls of document 01, each one definition that gives for every input what it answers and what state, downloads, memory
 -- and glass hold afterwards. A state is handed in with its downloads, which hold, release and refresh leave as they are. "Numbers
 -- given back" says which refusals each tests, in order. Assumes nothing.
-use Rattle.std.specs.Prelude.{ℕ, ◌+◌, Bool, true, false, cond, not, List, [], ◌∷◌, length, eqb}
+use Rattle.std.specs.Prelude.{ℕ, ◌+◌, Bool, true, false, cond, not, List, [], ◌∷◌, length, eqb, Option, None, Some}
 use Rattle.paper.specs.declared.Module.{Module}
 use Rattle.paper.specs.declared.Half.TheVariants.{Nothing}
-use Rattle.paper.specs.declared.Hold.{Hold}
-use Rattle.paper.specs.declared.Hold.TheVariants.{Free, Held}
+use Rattle.paper.specs.declared.Held.{Held}
 use Rattle.paper.specs.declared.Outcome.{Outcome}
 use Rattle.paper.specs.declared.Outcome.TheVariants.{Unfinished}
 use Rattle.paper.specs.declared.Refusal.{Refusal}
@@ -19,7 +18,7 @@ use Rattle.paper.specs.Downloads.{all_erased, Faces, faces}
 use Rattle.paper.specs.Strokes.{no_spans, apply_all, mark_all, refreshed, shown_all}
 use Rattle.paper.specs.Numbers.{refusal_number, carried_by, answered_by}
 use Rattle.paper.specs.Reading.{between}
-use Rattle.paper.specs.Settings.{initial_state, with_settings, with_selected, with_hold, with_half, with_spans, window_at, is_defined}
+use Rattle.paper.specs.Settings.{initial_state, hold_of, with_settings, with_selected, with_hold, with_half, with_spans, window_at, is_defined}
 use Rattle.paper.specs.Bounds.{accepted}
 use Rattle.paper.specs.Cells.{erase_stroke}
 use Rattle.paper.specs.Carry.{Meaning, is_held, byte_means, byte_store}
@@ -125,7 +124,7 @@ hold_refusal g s ds k =
 
 -- "Hold k drops a half-read command, saves all settings and the selected window, and selects k."
 unfoldable pub held_by : State → ℕ → State
-held_by s k = with_hold (with_selected (with_half s Nothing) k) (Held k s.selected s.settings)
+held_by s k = with_hold (with_selected (with_half s Nothing) k) (hold_of k s.selected s.settings)
 
 unfoldable pub hold_call : Module → State → List ℕ → ℕ → Answer
 hold_call g s ds k =
@@ -136,9 +135,9 @@ unfoldable pub release_refusal : Module → State → List ℕ → Refusal
 release_refusal g s ds = cond (not (accepted g s ds)) BrokenState (cond (not (is_held s.hold)) NotHeld Accepted)
 
 -- "Release drops a half-read command and puts the saved settings and selection back; window k keeps its cursor and mode."
-abbrev pub put_back : State → Hold → State
-put_back s Free = s
-put_back s (Held k back v) = with_hold (with_selected (with_settings (with_half s Nothing) v) back) Free
+abbrev pub put_back : State → Option Held → State
+put_back s None = s
+put_back s (Some h) = with_hold (with_selected (with_settings (with_half s Nothing) h.settings) h.selected) None
 
 unfoldable pub released : State → State
 released s = put_back s s.hold

@@ -1,7 +1,7 @@
 -- What one command, and one byte, mean: the state afterwards, the outcome, and the strokes; and the downloads afterwards. No memory
 -- is in it.
 -- Document 01, "Outcomes in the stream" and the order of its answers; "Image". Assumes nothing.
-use Rattle.std.specs.Prelude.{ℕ, ◌+◌, Bool, true, false, cond, not, ◌&&◌, ◌||◌, List, [], ◌∷◌, leb, ltb, eqb}
+use Rattle.std.specs.Prelude.{ℕ, ◌+◌, Bool, true, false, cond, not, ◌&&◌, ◌||◌, List, [], ◌∷◌, leb, ltb, eqb, Option, None, Some}
 use Rattle.paper.specs.declared.Module.{Module}
 use Rattle.paper.specs.declared.Style.{Style}
 use Rattle.paper.specs.declared.View.{View}
@@ -15,8 +15,7 @@ use Rattle.paper.specs.declared.Reading.{Reading}
 use Rattle.paper.specs.declared.Reading.TheVariants.{More, Whole, ImageByte, ImageEnd, GlyphEnd, Cancels, UnknownCode}
 use Rattle.paper.specs.declared.Outcome.{Outcome}
 use Rattle.paper.specs.declared.Outcome.TheVariants.{Unfinished, Carried, OutOfDomain, Cancelled, Unknown, NotCarried, WindowHeld, TooLarge, NotDefined, Dropped, NotStored}
-use Rattle.paper.specs.declared.Hold.{Hold}
-use Rattle.paper.specs.declared.Hold.TheVariants.{Free, Held}
+use Rattle.paper.specs.declared.Held.{Held}
 use Rattle.paper.specs.declared.State.{State}
 use Rattle.paper.specs.Numbers.{is_carried}
 use Rattle.paper.specs.Downloads.{is_stored, is_dropped, put_in, erased, all_erased, Faces, in_force}
@@ -50,9 +49,9 @@ not_carried_value Write n = false
 not_carried_value Switch n = false
 
 -- whether a window is held
-unfoldable pub is_held : Hold → Bool
-is_held Free = false
-is_held (Held k back v) = true
+unfoldable pub is_held : Option Held → Bool
+is_held None = false
+is_held (Some h) = true
 
 -- the write mode
 unfoldable pub is_write : Key → Bool
@@ -190,11 +189,11 @@ image_strokes v y column row b =
     (image_stroke y column row b v ∷ []) []
 
 -- a define's note of a drop, n before the code that it is at came whole; while held nothing is stored, and nothing dropped
-abbrev pub noted : List ℕ → Hold → Batch → Bool → Bool
+abbrev pub noted : List ℕ → Option Held → Batch → Bool → Bool
 noted ds h d n = n || (not (is_held h) && is_dropped ds d.code)
 
 -- "a define read to its end answers 18 exactly if one of its codes was dropped"; "While held, define .. answered 15"
-abbrev pub define_answer : Hold → Bool → Outcome
+abbrev pub define_answer : Option Held → Bool → Outcome
 define_answer h dropped = cond (is_held h) WindowHeld (cond dropped Dropped Carried)
 
 -- a download's last column has come: its define goes on with the next code, or is read to its end

@@ -1,6 +1,6 @@
 -- Document 01, "Settings and windows": initial values, domains, windows, and the range in which a command works.
 -- Assumes nothing.
-use Rattle.std.specs.Prelude.{ℕ, ◌+◌, ◌-◌, Bool, true, cond, ◌&&◌, ◌||◌, List, get_or, set, replicate, leb, ltb, eqb}
+use Rattle.std.specs.Prelude.{ℕ, ◌+◌, ◌-◌, Bool, true, cond, ◌&&◌, ◌||◌, List, get_or, set, replicate, leb, ltb, eqb, Option, None, Some}
 use Rattle.paper.specs.declared.Module.{Module}
 use Rattle.paper.specs.declared.Style.{Style}
 use Rattle.paper.specs.declared.Settings.{Settings}
@@ -12,8 +12,7 @@ use Rattle.paper.specs.declared.Key.{Key}
 use Rattle.paper.specs.declared.Key.TheVariants.{Charset, Codes, Caret, Brightness, Reverse, Speed, Mixing, Width, Write, Switch}
 use Rattle.paper.specs.declared.Half.{Half}
 use Rattle.paper.specs.declared.Half.TheVariants.{Nothing}
-use Rattle.paper.specs.declared.Hold.{Hold}
-use Rattle.paper.specs.declared.Hold.TheVariants.{Free}
+use Rattle.paper.specs.declared.Held.{Held}
 use Rattle.paper.specs.declared.State.{State}
 use Rattle.paper.specs.Reading.{between}
 use Rattle.paper.specs.Strokes.{no_spans}
@@ -54,15 +53,19 @@ initial_state g =
       windows = replicate 4 no_window;
       base = top_left;
       selected = 0;
-      hold = Free;
+      hold = None;
       half = Nothing;
       spans = no_spans g;
     }
 
+-- what is held, by its parts: window k, the window selected before it and the settings, which a release puts back
+abbrev pub hold_of : ℕ → ℕ → Settings → Option Held
+hold_of k back v = Some (record { window = k; selected = back; settings = v })
+
 -- ---- a state with one part replaced
 
 -- a state by its parts
-abbrev pub make_state : Settings → List Window → Cursor → ℕ → Hold → Half → List Span → State
+abbrev pub make_state : Settings → List Window → Cursor → ℕ → Option Held → Half → List Span → State
 make_state v ws base k h p ps =
     record { settings = v; windows = ws; base = base; selected = k; hold = h; half = p; spans = ps }
 
@@ -78,7 +81,7 @@ with_base s k = make_state s.settings s.windows k s.selected s.hold s.half s.spa
 abbrev pub with_selected : State → ℕ → State
 with_selected s k = make_state s.settings s.windows s.base k s.hold s.half s.spans
 
-abbrev pub with_hold : State → Hold → State
+abbrev pub with_hold : State → Option Held → State
 with_hold s h = make_state s.settings s.windows s.base s.selected h s.half s.spans
 
 abbrev pub with_half : State → Half → State

@@ -360,15 +360,12 @@ pub enum Refusal {
     NoTelegram,
 }
 
-// Whether a window is held, and what its release puts back.
+// A held window, and what its release puts back: which was selected before, and the settings.
 #[derive(Clone, Copy)]
-pub enum Hold {
-    Free,
-    Held {
-        window: u8,
-        selected: u8,
-        settings: Settings,
-    },
+pub struct Held {
+    pub window: u8,
+    pub selected: u8,
+    pub settings: Settings,
 }
 
 // All that a panel knows besides its memory and its downloads, which stand beside it: 144 bytes, lent like the memory. `selected` is
@@ -380,7 +377,7 @@ pub struct State {
     pub windows: [Window; 4],
     pub base: Cursor,
     pub selected: u8,
-    pub hold: Hold,
+    pub hold: Option<Held>,
     pub spans: Spans,
 }
 

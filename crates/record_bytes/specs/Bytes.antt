@@ -1,13 +1,12 @@
 -- The record of 259 bytes, for C: the state as 115 bytes, and after them the downloads, which are their own bytes. docs/RECORD.md has
 -- the same as a table. Assumes nothing.
-use Rattle.std.specs.Prelude.{ℕ, ◌+◌, ◌/◌, ◌%◌, List, [], ◌∷◌, ◌++◌, get_or, take, replicate}
+use Rattle.std.specs.Prelude.{ℕ, ◌+◌, ◌/◌, ◌%◌, List, [], ◌∷◌, ◌++◌, get_or, take, replicate, Option, None, Some}
 use Rattle.paper.specs.declared.Settings.{Settings}
 use Rattle.paper.specs.declared.Cursor.{Cursor}
 use Rattle.paper.specs.declared.Window.{Window}
 use Rattle.paper.specs.declared.Span.{Span}
 use Rattle.paper.specs.declared.Columns.{Columns}
-use Rattle.paper.specs.declared.Hold.{Hold}
-use Rattle.paper.specs.declared.Hold.TheVariants.{Free, Held}
+use Rattle.paper.specs.declared.Held.{Held}
 use Rattle.paper.specs.declared.State.{State}
 use Rattle.paper.specs.Downloads.{store_length}
 use Rattle.paper.specs.Strokes.{no_span}
@@ -132,9 +131,9 @@ abbrev pub base_bytes : Cursor → ℕ → List ℕ
 base_bytes k selected = cursor_bytes k ++ (selected ∷ [])
 
 -- while nothing is held all its bytes are 0
-unfoldable pub hold_bytes : Hold → List ℕ
-hold_bytes Free = replicate hold_length 0
-hold_bytes (Held k back v) = 1 ∷ k ∷ back ∷ settings_bytes v
+unfoldable pub hold_bytes : Option Held → List ℕ
+hold_bytes None = replicate hold_length 0
+hold_bytes (Some x) = 1 ∷ x.window ∷ x.selected ∷ settings_bytes x.settings
 
 abbrev pub columns_bytes : Columns → List ℕ
 columns_bytes c = c.width ∷ c.come ∷ c.c0 ∷ c.c1 ∷ c.c2 ∷ c.c3 ∷ c.c4 ∷ c.c5 ∷ c.c6 ∷ []

@@ -6,7 +6,7 @@ ghost use Rattle.std.specs.Prelude.{◌≡◌};
 ghost use Rattle.record_half.specs.Slots.{half_slots};
 ghost use Rattle.record_bytes.specs.Bytes.{settings_bytes, cursor_bytes, window_bytes, base_bytes, hold_bytes, slot_bytes, span_bytes, spans_bytes};
 
-use paper::{Cursor, Half, Hold, Settings, Span, Spans, Window};
+use paper::{Cursor, Half, Held, Settings, Span, Spans, Window};
 use record_half::Slots;
 
 // ---- the layout, as specs/Bytes has it
@@ -126,18 +126,13 @@ pub fn base_bytes(k: Cursor, selected: u8) -> [u8; BASE]
 
 // What is held.
 #[tactic(auto, unfolding(crate::specs::Bytes::hold_bytes))]
-pub fn hold_bytes(hold: Hold) -> [u8; HOLD]
+pub fn hold_bytes(hold: Option<Held>) -> [u8; HOLD]
     ensures { result ≡ hold_bytes hold }
 {
     let mut bytes = [0; HOLD];
-    if let Hold::Held {
-        window,
-        selected,
-        settings,
-    } = hold
-    {
-        bytes[..3].copy_from_slice(&[1, window, selected]);
-        bytes[3..].copy_from_slice(&settings_bytes(settings));
+    if let Some(held) = hold {
+        bytes[..3].copy_from_slice(&[1, held.window, held.selected]);
+        bytes[3..].copy_from_slice(&settings_bytes(held.settings));
     }
     bytes
 }

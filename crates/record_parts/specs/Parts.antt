@@ -1,13 +1,13 @@
 -- The parts of a state, read from bytes by their places. docs/RECORD.md has the layout. Assumes nothing.
-use Rattle.std.specs.Prelude.{ℕ, ◌+◌, ◌*◌, cond, List, [], ◌∷◌, get_or, eqb}
+use Rattle.std.specs.Prelude.{ℕ, ◌+◌, ◌*◌, cond, List, [], ◌∷◌, get_or, eqb, Option, None}
+use Rattle.paper.specs.Settings.{hold_of}
 use Rattle.paper.specs.declared.Settings.{Settings}
 use Rattle.paper.specs.declared.Cursor.{Cursor}
 use Rattle.paper.specs.declared.Window.{Window}
 use Rattle.paper.specs.declared.Span.{Span}
 use Rattle.paper.specs.declared.Columns.{Columns}
 use Rattle.paper.specs.declared.Half.{Half}
-use Rattle.paper.specs.declared.Hold.{Hold}
-use Rattle.paper.specs.declared.Hold.TheVariants.{Free, Held}
+use Rattle.paper.specs.declared.Held.{Held}
 use Rattle.paper.specs.declared.State.{State}
 use Rattle.record_half.specs.declared.Slots.{Slots}
 use Rattle.record_half.specs.Slots.{slots}
@@ -53,8 +53,8 @@ window_from l i =
 unfoldable pub span_at : List ℕ → ℕ → Span
 span_at l i = record { first = word_at l i; end = word_at l (i + 2) }
 
-unfoldable pub hold_at : List ℕ → ℕ → Hold
-hold_at l i = cond (eqb (get_or l i 0) 1) (Held (get_or l (i + 1) 0) (get_or l (i + 2) 0) (settings_at l (i + 3))) Free
+unfoldable pub hold_at : List ℕ → ℕ → Option Held
+hold_at l i = cond (eqb (get_or l i 0) 1) (hold_of (get_or l (i + 1) 0) (get_or l (i + 2) 0) (settings_at l (i + 3))) None
 
 abbrev pub columns_at : List ℕ → ℕ → Columns
 columns_at l i =
@@ -80,7 +80,7 @@ slots_at l i =
     (columns_at l (i + 13))
 
 -- the state of bytes, with this held and this half read
-abbrev pub decoded_with : List ℕ → Hold → Half → State
+abbrev pub decoded_with : List ℕ → Option Held → Half → State
 decoded_with l hold half =
     record {
       settings = settings_at l 0;

@@ -7,7 +7,7 @@ ghost use Rattle.std.specs.Prelude.{◌≡◌, ◌+◌, ◌≤◌, length};
 ghost use Rattle.record_bytes.specs.Bytes.{settings_length, hold_length, columns_length, half_length};
 ghost use Rattle.record_parts.specs.Parts.{word_at, settings_at, hold_at, columns_at, slots_at};
 
-use paper::{Columns, Hold, Settings, Style};
+use paper::{Columns, Held, Settings, Style};
 use record_half::Slots;
 
 // A 16-bit number.
@@ -44,17 +44,17 @@ pub fn settings_at(l: &[u8], i: usize) -> Settings
 
 // What is held; a first byte other than 1 is taken for nothing, whose bytes are others.
 #[tactic(auto, unfolding(crate::specs::Parts::hold_at))]
-pub fn hold_at(l: &[u8], i: usize) -> Hold
+pub fn hold_at(l: &[u8], i: usize) -> Option<Held>
     requires { i + hold_length ≤ length l.now }
     ensures { result ≡ hold_at l.now i }
 {
     match l[i] {
-        1 => Hold::Held {
+        1 => Some(Held {
             window: l[i + 1],
             selected: l[i + 2],
             settings: settings_at(l, i + 3),
-        },
-        _ => Hold::Free,
+        }),
+        _ => None,
     }
 }
 

@@ -1,6 +1,7 @@
 -- What was encoded decodes to the same state, and a record that stands for an accepted state is that state's, with its downloads.
 -- Assumes nothing.
 use Prim.Native.Nat.{ℕ, ◌+◌, ◌*◌}
+use Rattle.std.specs.Prelude.{Option, None, Some}
 use native.Mathlib.Nat.{div-add-mod'}
 use native.Mathlib.Omega.{arith}
 use mathlib.Core.Path.{◌≡◌, refl, sym, ap, ◌∙◌}
@@ -14,8 +15,7 @@ use Rattle.paper.specs.declared.Cursor.{Cursor}
 use Rattle.paper.specs.declared.Window.{Window}
 use Rattle.paper.specs.declared.Span.{Span}
 use Rattle.paper.specs.declared.Half.{Half}
-use Rattle.paper.specs.declared.Hold.{Hold}
-use Rattle.paper.specs.declared.Hold.TheVariants.{Free, Held}
+use Rattle.paper.specs.declared.Held.{Held}
 use Rattle.paper.specs.declared.State.{State}
 use Rattle.paper.specs.Panel.{panel}
 use Rattle.paper.specs.Strokes.{no_span}
@@ -76,7 +76,7 @@ slots_back t = rw (word_back t.p, word_back t.q, word_back t.r, word_back t.s)
 -- ---- the state's bytes
 
 -- a state by its fields
-abbrev state : Settings → List Window → Cursor → ℕ → Hold → Half → List Span → State
+abbrev state : Settings → List Window → Cursor → ℕ → Option Held → Half → List Span → State
 state v ws k n h p ps =
     record { settings = v; windows = ws; base = k; selected = n; hold = h; half = p; spans = ps }
 
@@ -103,25 +103,25 @@ module _ (s : State) where
 
 -- what stands after the hold is found by taking the hold apart
 module _ (v : Settings) (ws : List Window) (k : Cursor) (n : ℕ) (p : Half) (ps : List Span) where
-  hold_back : (h : Hold) → hold_at (encoded (state v ws k n h p ps)) at_hold ≡ h
+  hold_back : (h : Option Held) → hold_at (encoded (state v ws k n h p ps)) at_hold ≡ h
   unfolding encoded windows_bytes tail_bytes hold_bytes hold_at
-  hold_back Free = refl
-  hold_back (Held a b u) = refl
+  hold_back None = refl
+  hold_back (Some x) = refl
 
-  tail_slots : (h : Hold) → slots_at (encoded (state v ws k n h p ps)) at_half ≡ half_slots p
+  tail_slots : (h : Option Held) → slots_at (encoded (state v ws k n h p ps)) at_half ≡ half_slots p
   unfolding encoded windows_bytes tail_bytes hold_bytes slots_at
-  tail_slots Free = slots_back (half_slots p)
-  tail_slots (Held a b u) = slots_back (half_slots p)
+  tail_slots None = slots_back (half_slots p)
+  tail_slots (Some x) = slots_back (half_slots p)
 
-  upper_back : (h : Hold) → span_at (encoded (state v ws k n h p ps)) at_upper ≡ get_or ps 0 no_span
+  upper_back : (h : Option Held) → span_at (encoded (state v ws k n h p ps)) at_upper ≡ get_or ps 0 no_span
   unfolding encoded windows_bytes tail_bytes hold_bytes span_at
-  upper_back Free = span_back (get_or ps 0 no_span)
-  upper_back (Held a b u) = span_back (get_or ps 0 no_span)
+  upper_back None = span_back (get_or ps 0 no_span)
+  upper_back (Some x) = span_back (get_or ps 0 no_span)
 
-  lower_back : (h : Hold) → span_at (encoded (state v ws k n h p ps)) at_lower ≡ get_or ps 1 no_span
+  lower_back : (h : Option Held) → span_at (encoded (state v ws k n h p ps)) at_lower ≡ get_or ps 1 no_span
   unfolding encoded windows_bytes tail_bytes hold_bytes span_at
-  lower_back Free = span_back (get_or ps 1 no_span)
-  lower_back (Held a b u) = span_back (get_or ps 1 no_span)
+  lower_back None = span_back (get_or ps 1 no_span)
+  lower_back (Some x) = span_back (get_or ps 1 no_span)
 
 module _ (s : State) where
   settings_back : settings_at (encoded s) 0 ≡ s.settings

@@ -7,11 +7,10 @@ use mathlib.Core.Bool.{Bool, true, false, ◌&&◌, true≢false}
 use lib.ListN.{length, get_or, replicate, take, drop, length-drop}
 use lib.Seq.{length-take-le}
 use borrow.Author.Tests.{eqb-true}
-use Rattle.std.specs.Prelude.{nat_eq}
+use Rattle.std.specs.Prelude.{nat_eq, None}
 use Rattle.std.specs.List.{fold}
 use Rattle.std.proofs.lemmas.List.{get_or-take, get_or-drop}
 use Rattle.std.proofs.lemmas.List.Folds.{fold_stays}
-use Rattle.paper.specs.declared.Hold.TheVariants.{Free}
 use Rattle.paper.specs.declared.Half.TheVariants.{Nothing}
 use Rattle.paper.specs.Panel.{bytes_from}
 use Rattle.record_half.specs.Slots.{half_slots, half_of}
@@ -56,17 +55,17 @@ zero_same (suc n) i l h =
 
 module _ (l : List ℕ) (bytes : (k : ℕ) → get_or l k 0 < 256) (long : length l ≡ state_length) (idle : Idle l) where
   -- they are their state's own
-  idle-same : same (encoded (decoded_with l Free Nothing)) l ≡ true
+  idle-same : same (encoded (decoded_with l None Nothing)) l ≡ true
   unfolding hold_bytes half_slots
   idle-same =
-      parts_decide l bytes Free Nothing long
+      parts_decide l bytes None Nothing long
       ∙ ap₂ ◌&&◌ (zero_same hold_length at_hold l (λ k a b. idle k (omega arith) (omega arith))) (zero_same half_length at_half l (λ k a b. idle k (omega arith) (omega arith)))
 
   -- nothing is held, nothing is half read
-  decoded-idle : decoded_with l Free Nothing ≡ decoded l
+  decoded-idle : decoded_with l None Nothing ≡ decoded l
   unfolding decoded hold_at slots_at half_of
   decoded-idle = rw (idle at_hold (omega arith) (omega arith), idle at_half (omega arith) (omega arith))
 
   -- they stand for that state
-  pub idle_stands : decoded_with l Free Nothing ≡ state_of l
+  pub idle_stands : decoded_with l None Nothing ≡ state_of l
   idle_stands = stands l decoded-idle refl idle-same

@@ -1,11 +1,11 @@
 -- What bytes stand for, by the test of them. Assumes nothing.
 use Prim.Native.Nat.{ℕ}
+use Rattle.std.specs.Prelude.{Option, None}
 use mathlib.Core.Path.{◌≡◌, ap, ◌∙◌}
 use mathlib.Core.Bool.{Bool, true, false}
 use mathlib.Core.List.{List}
 use Rattle.paper.specs.declared.Half.{Half}
-use Rattle.paper.specs.declared.Hold.{Hold}
-use Rattle.paper.specs.declared.Hold.TheVariants.{Free}
+use Rattle.paper.specs.declared.Held.{Held}
 use Rattle.paper.specs.declared.Half.TheVariants.{Nothing}
 use Rattle.paper.specs.declared.State.{State}
 use Rattle.paper.specs.Settings.{with_hold, with_half}
@@ -28,8 +28,8 @@ module _ (l : List ℕ) {s : State} {t : Bool} (d : s ≡ decoded l) (e : t ≡ 
 
 -- read with nothing held or half read, and then what is
 module _
-    (l : List ℕ) {s : State} {hold : Hold} {half : Half} {slots : Slots} {t : Bool}
-    (d : s ≡ decoded_with l Free Nothing) (h : hold ≡ hold_at l at_hold) (p : half ≡ half_of slots) (q : slots ≡ slots_at l at_half)
+    (l : List ℕ) {s : State} {hold : Option Held} {half : Half} {slots : Slots} {t : Bool}
+    (d : s ≡ decoded_with l None Nothing) (h : hold ≡ hold_at l at_hold) (p : half ≡ half_of slots) (q : slots ≡ slots_at l at_half)
     (e : t ≡ same (encoded (decoded_with l hold half)) l) where
   read : decoded_with l hold half ≡ decoded l
   unfolding decoded

@@ -1,12 +1,13 @@
 -- Bytes and those of their state differ in nothing but what is held and what is half read. Assumes nothing.
 use Prim.Native.Nat.{ℕ, zero, suc, ◌+◌, ◌<◌}
+use Rattle.std.specs.Prelude.{Option}
 use native.Mathlib.Omega.{arith}
 use mathlib.Core.Path.{◌≡◌, refl, sym, ap, ap₂, ◌∙◌}
 use mathlib.Core.List.{List, [], ◌∷◌, ◌++◌}
 use mathlib.Core.Bool.{Bool, ◌&&◌}
 use lib.ListN.{length, get_or}
 use Rattle.paper.specs.declared.Half.{Half}
-use Rattle.paper.specs.declared.Hold.{Hold}
+use Rattle.paper.specs.declared.Held.{Held}
 use Rattle.paper.specs.Panel.{bytes_from}
 use Rattle.record_half.specs.Slots.{half_slots}
 use Rattle.record_bytes.specs.Bytes.{settings_length, window_length, base_length, hold_length, half_length, spans_length, state_length}
@@ -64,7 +65,7 @@ module _ (l : List ℕ) (bytes : (k : ℕ) → get_or l k 0 < 256) where
   own_parts : length l ≡ state_length → l ≡ bytes_from at_hold 0 l ++ (bytes_from hold_length at_hold l ++ (bytes_from half_length at_half l ++ bytes_from spans_length at_upper l))
   own_parts long = sym (reads_all l) ∙ ap (λ (n : ℕ). bytes_from n 0 l) long
 
-  module _ (hold : Hold) (half : Half) where
+  module _ (hold : Option Held) (half : Half) where
     tail_same : tail_bytes (decoded_with l hold half)
         ≡ bytes_from base_length at_base l ++ (hold_bytes hold ++ (slot_bytes (half_slots half) ++ bytes_from spans_length at_upper l))
     unfolding tail_bytes

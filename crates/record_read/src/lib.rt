@@ -11,7 +11,7 @@ ghost use Rattle.record_bytes.specs.Bytes.{encoded};
 ghost use Rattle.record_parts.specs.Parts.{decoded_with};
 ghost use Rattle.record_read.specs.Record.{Idle, same, state_of};
 
-use paper::{Half, Hold, State};
+use paper::{Half, Held, State};
 use record_bytes::{AT_HALF, AT_HOLD, AT_UPPER, STATE};
 
 // Whether a part of l, from `at` on, is these bytes.
@@ -23,7 +23,7 @@ fn is_at(a: &[u8], l: &[u8], at: usize) -> bool
 }
 
 // Whether bytes are those of their state, with this held and this half read: only the bytes of these two can be others.
-fn is_written(l: &[u8; STATE], hold: Hold, half: Half) -> bool
+fn is_written(l: &[u8; STATE], hold: Option<Held>, half: Half) -> bool
     ensures { result ≡ same (encoded (decoded_with l.now hold half)) l.now }
 {
     let held = record_bytes::hold_bytes(hold);
@@ -50,7 +50,7 @@ fn is_idle(l: &[u8; STATE]) -> bool
 pub fn state_of(l: &[u8; STATE]) -> State
     ensures { result ≡ state_of l.now }
 {
-    let s = record_state::decode_with(l, Hold::Free, Half::Nothing);
+    let s = record_state::decode_with(l, None, Half::Nothing);
     if is_idle(l) {
         return s;
     }

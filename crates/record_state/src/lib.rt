@@ -6,7 +6,7 @@ ghost use Rattle.std.specs.Prelude.{◌≡◌, ◌+◌, ◌≤◌, length};
 ghost use Rattle.record_bytes.specs.Bytes.{cursor_length, window_length, span_length};
 ghost use Rattle.record_parts.specs.Parts.{cursor_at, window_from, span_at, decoded_with};
 
-use paper::{Cursor, Half, Hold, Span, State, Window};
+use paper::{Cursor, Half, Held, Span, State, Window};
 use record_bytes::{
     AT_BASE, AT_FIRST, AT_FOURTH, AT_LOWER, AT_SECOND, AT_SELECTED, AT_THIRD, AT_UPPER, STATE,
 };
@@ -52,7 +52,7 @@ fn span_at(l: &[u8], i: usize) -> Span
 }
 
 // The state that bytes give, with this held and this half read.
-pub fn decode_with(l: &[u8; STATE], hold: Hold, half: Half) -> State
+pub fn decode_with(l: &[u8; STATE], hold: Option<Held>, half: Half) -> State
     ensures { result ≡ decoded_with l.now hold half }
 {
     State {

@@ -1,5 +1,6 @@
 -- A state's parts, put one after the other, are the state's bytes; other spans change their end alone. Assumes nothing.
 use Prim.Native.Nat.{ℕ, ◌+◌, ◌-◌}
+use Rattle.std.specs.Prelude.{Option, None, Some}
 use mathlib.Core.Path.{◌≡◌, refl, sym, ap, ◌∙◌}
 use mathlib.Core.List.{List, ◌++◌, append_assoc}
 use lib.ListN.{length, take, length-append, length-take}
@@ -11,8 +12,7 @@ use Rattle.paper.specs.declared.Cursor.{Cursor}
 use Rattle.paper.specs.declared.Window.{Window}
 use Rattle.paper.specs.declared.Span.{Span}
 use Rattle.paper.specs.declared.Half.{Half}
-use Rattle.paper.specs.declared.Hold.{Hold}
-use Rattle.paper.specs.declared.Hold.TheVariants.{Free, Held}
+use Rattle.paper.specs.declared.Held.{Held}
 use Rattle.paper.specs.declared.State.{State}
 use Rattle.paper.specs.Downloads.{store_length}
 use Rattle.paper.specs.Settings.{make_state, with_spans}
@@ -46,10 +46,10 @@ ends {at} {l} {r} {x} e =
 
 -- ---- lengths
 
-pub hold_length_lem : (h : Hold) → length (hold_bytes h) ≡ hold_length
+pub hold_length_lem : (h : Option Held) → length (hold_bytes h) ≡ hold_length
 unfolding hold_bytes
-hold_length_lem Free = refl
-hold_length_lem (Held k back v) = refl
+hold_length_lem None = refl
+hold_length_lem (Some x) = refl
 
 tail_length : (s : State) → length (tail_bytes s) ≡ state_length - at_base
 unfolding tail_bytes
@@ -65,11 +65,11 @@ record_length_lem s ds e = rw (length-append (encoded s) ds, encoded-length s, e
 -- ---- the spans
 
 -- what stands after the hold is found by taking the hold apart
-spans_last : (v : Settings) (ws : List Window) (k : Cursor) (n : ℕ) (h : Hold) (p : Half) (ps qs : List Span)
+spans_last : (v : Settings) (ws : List Window) (k : Cursor) (n : ℕ) (h : Option Held) (p : Half) (ps qs : List Span)
     → spans_into (encoded (make_state v ws k n h p ps)) qs ≡ encoded (make_state v ws k n h p qs)
 unfolding encoded windows_bytes tail_bytes hold_bytes
-spans_last v ws k n Free p ps qs = refl
-spans_last v ws k n (Held a b u) p ps qs = refl
+spans_last v ws k n None p ps qs = refl
+spans_last v ws k n (Some x) p ps qs = refl
 
 -- a state's bytes with other spans are those of the state with these
 pub spans_into_lem : (s : State) (ps : List Span) → spans_into (encoded s) ps ≡ encoded (with_spans s ps)

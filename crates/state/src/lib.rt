@@ -1,7 +1,7 @@
 // The state: what commands do to the state alone: the initial state, user windows and whether one is held.
 // It may use the paper and state_settings, and it knows nothing of memory or of how bytes are read. The current window's cursor and its
 // range are state_views'.
-// Each contract is the paper's definition of the same name. State, Hold and Window are the paper's, which holds no code: what is asked
+// Each contract is the paper's definition of the same name. State, Held and Window are the paper's, which holds no code: what is asked
 // of them is a function here and not a method. A window's number, 1 to 4, is asked for in each contract: the calls and commands that
 // bring one take any number, and answer one that is none.
 #![tactic(auto)]
@@ -11,7 +11,7 @@ ghost use Rattle.paper.specs.Strokes.{no_spans};
 ghost use Rattle.paper.specs.Settings.{top_left, no_window, initial_state, new_window, defined, cancelled};
 ghost use Rattle.paper.specs.Carry.{is_held};
 
-use paper::{Cursor, Half, Hold, Module, Span, Spans, State, Window};
+use paper::{Cursor, Half, Held, Module, Span, Spans, State, Window};
 
 // ---- the initial state
 
@@ -50,7 +50,7 @@ pub fn initial_state(g: Module) -> State
         windows: [no_window(); 4],
         base: top_left(),
         selected: 0,
-        hold: Hold::Free,
+        hold: None,
         half: Half::Nothing,
         spans: no_spans(g),
     }
@@ -59,10 +59,11 @@ pub fn initial_state(g: Module) -> State
 // ---- user windows
 
 // Whether a window is held. It is read from the state here and nowhere else.
-pub fn is_held(h: Hold) -> bool
+#[tactic(auto, unfolding(paper::specs::Carry::is_held))]
+pub fn is_held(h: Option<Held>) -> bool
     ensures { result ≡ is_held h }
 {
-    matches!(h, Hold::Held { .. })
+    h.is_some()
 }
 
 // The four user windows with one place changed: that of window k (1 to 4). Define, cancel and every move go through it.

@@ -4,21 +4,17 @@
 
 ghost use Rattle.std.specs.Prelude.{◌≡◌};
 
-use paper::{Hold, Settings, State};
+use paper::{Held, Settings, State};
 
 // The same state, what is saved in it taken apart and put together again: so the compiler sees fields that the loop over a piece
 // leaves alone, and not a block to be copied with each byte.
 pub fn apart(s: State) -> State
     ensures { result ≡ s }
 {
-    let h = s.hold;
-    match h {
-        Hold::Free => s,
-        Hold::Held {
-            window,
-            selected,
-            settings,
-        } => {
+    match s.hold {
+        None => s,
+        Some(held) => {
+            let settings = held.settings;
             let style = settings.style;
             let again = Settings {
                 charset: settings.charset,
@@ -31,11 +27,10 @@ pub fn apart(s: State) -> State
                 switch: settings.switch,
                 style,
             };
-            let hold = Hold::Held {
-                window,
-                selected,
+            let hold = Some(Held {
                 settings: again,
-            };
+                ..held
+            });
             State { hold, ..s }
         }
     }
