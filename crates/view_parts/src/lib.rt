@@ -65,20 +65,16 @@ fn next_telegram(rt: &impl Print, link: &[u8], place: usize, address: usize) -> 
     requires { place < length link.now }
     ensures { IfOk result (λ p. (p.end ≤ length link.now) × (place < p.after)) }
 {
-    let next = telegrams_good::next(link, place);
-    write_stretch(
-        rt,
-        place,
-        view_text::part(link, place, next.unwrap_or(link.len())),
-    )?;
-    if let Some(at) = next {
-        return telegram_at(rt, link, at, address);
-    }
-    Ok(Part {
-        first: place,
-        end: place,
-        after: link.len(),
-    })
+    let Some(at) = telegrams_good::next(link, place) else {
+        write_stretch(rt, place, &link[place..])?;
+        return Ok(Part {
+            first: place,
+            end: place,
+            after: link.len(),
+        });
+    };
+    write_stretch(rt, place, &link[place..at])?;
+    telegram_at(rt, link, at, address)
 }
 
 // The part that begins at `place` or, in a link that is read at an address, behind it.

@@ -1,13 +1,8 @@
-// A value printed in a column of a line, and a part of a buffer. It uses nothing.
+// A value printed in a column of a line. It uses nothing.
 #![tactic(auto)]
 
 use std::fmt;
 use std::fmt::Write;
-
-// The bytes from a to before e; none if they do not lie in the buffer.
-pub fn part(from: &[u8], a: usize, e: usize) -> &[u8] {
-    from.get(a..e).unwrap_or(&[])
-}
 
 // A value in a column of so many characters: blanks fill it up, and a longer one stands as it is. It is of ASCII, a character to a byte.
 #[derive(Clone, Copy)]
