@@ -1,9 +1,6 @@
 -- `dots::clear` meets its contract. The loop's invariant: the first i rows are zeroed. Assumes nothing.
-use mathlib.Core.Path.{◌≡◌, refl}
-use Prim.Native.Nat.{◌≤◌, ◌-◌}
+use mathlib.Core.Path.{refl}
 use native.Mathlib.Omega.{arith}
-use lib.ListN.{length}
-use Rattle.paper.specs.Strokes.{rect_at}
 use Rattle.laws_memory.specs.Rectangles.{cleared}
 use Rattle.laws_memory.proofs.Rects.{rect_none, rect_turn, rect_end}
 use Rattle.dots.proofs.clear.Goals as goal

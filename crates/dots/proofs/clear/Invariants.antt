@@ -1,11 +1,9 @@
 -- `dots::clear` meets its contract. The loop's invariant: the first i rows are zeroed. Assumes nothing.
-use mathlib.Core.Path.{◌≡◌, refl}
-use Prim.Native.Nat.{◌≤◌, ◌-◌}
-use native.Mathlib.Omega.{arith}
+use mathlib.Core.Path.{◌≡◌}
+use Prim.Native.Nat.{◌≤◌}
 use lib.ListN.{length}
 use Rattle.paper.specs.Strokes.{rect_at}
 use Rattle.laws_memory.specs.Rectangles.{cleared}
-use Rattle.laws_memory.proofs.Rects.{rect_none, rect_turn, rect_end}
 use Rattle.dots.proofs.clear.Given as goal
 
 abbrev pub invariant-loop-i : goal.invariant-loop-i

@@ -1,9 +1,7 @@
 -- `dots::clear_row` meets its contract. The loop's invariant: the first j columns are zeroed. Assumes nothing.
-use mathlib.Core.Path.{◌≡◌, refl}
-use Prim.Native.Nat.{◌≤◌, ◌-◌}
+use mathlib.Core.Path.{refl}
 use native.Mathlib.Omega.{arith}
-use lib.ListN.{length, length-set}
-use Rattle.paper.specs.Strokes.{rect_at}
+use lib.ListN.{length-set}
 use Rattle.laws_memory.specs.Rectangles.{cleared}
 use Rattle.laws_memory.proofs.Rects.{rect_none, row_turn, row_end}
 use Rattle.dots.proofs.clear_row.Goals as goal

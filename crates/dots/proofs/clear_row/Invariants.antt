@@ -1,11 +1,9 @@
 -- `dots::clear_row` meets its contract. The loop's invariant: the first j columns are zeroed. Assumes nothing.
-use mathlib.Core.Path.{◌≡◌, refl}
-use Prim.Native.Nat.{◌≤◌, ◌-◌}
-use native.Mathlib.Omega.{arith}
-use lib.ListN.{length, length-set}
+use mathlib.Core.Path.{◌≡◌}
+use Prim.Native.Nat.{◌≤◌}
+use lib.ListN.{length}
 use Rattle.paper.specs.Strokes.{rect_at}
 use Rattle.laws_memory.specs.Rectangles.{cleared}
-use Rattle.laws_memory.proofs.Rects.{rect_none, row_turn, row_end}
 use Rattle.dots.proofs.clear_row.Given as goal
 
 abbrev pub invariant-loop-j : goal.invariant-loop-j

@@ -1,12 +1,9 @@
 -- `dots_pull::pull` meets its contract. The loop's invariant: the first i rows are taken. Assumes nothing.
-use mathlib.Core.Path.{◌≡◌, refl}
-use Prim.Native.Nat.{◌≤◌, ◌-◌}
-use native.Mathlib.Omega.{arith}
+use mathlib.Core.Path.{◌≡◌}
+use Prim.Native.Nat.{◌≤◌}
 use lib.ListN.{length}
 use Rattle.paper.specs.Strokes.{rect_at}
 use Rattle.laws_memory.specs.Rectangles.{pulled}
-use Rattle.laws_memory.proofs.Rects.{rect_none, rect_end}
-use Rattle.laws_memory.proofs.Pulls.{pull_turn}
 use Rattle.dots_pull.proofs.pull.Given as goal
 
 abbrev pub invariant-loop-i : goal.invariant-loop-i

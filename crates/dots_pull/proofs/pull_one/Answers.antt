@@ -1,8 +1,6 @@
 -- `dots_pull::pull_one` meets its contract. Assumes nothing.
-use borrow.Author.Rules.{rules}
 use mathlib.Core.Path.{ap₂}
 use Prim.Native.Nat.{ℕ}
-use native.Mathlib.Omega.{arith}
 use lib.ListN.{get_or, set}
 use Rattle.dots_pull.proofs.pull_one.Goals as goal
 

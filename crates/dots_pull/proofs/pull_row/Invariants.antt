@@ -1,13 +1,9 @@
 -- `dots_pull::pull_row` meets its contract. The loop's invariant: the first k pairs of columns are taken. Assumes nothing.
-use mathlib.Core.Path.{◌≡◌, refl, ap, ◌∙◌}
-use mathlib.Core.List.{List}
-use Prim.Native.Nat.{ℕ, ◌*◌, ◌/◌, ◌≤◌, ◌-◌}
-use native.Mathlib.Omega.{arith}
+use mathlib.Core.Path.{◌≡◌}
+use Prim.Native.Nat.{◌*◌, ◌/◌, ◌≤◌}
 use lib.ListN.{length}
 use Rattle.paper.specs.Strokes.{rect_at}
 use Rattle.laws_memory.specs.Rectangles.{pulled}
-use Rattle.laws_memory.proofs.Rects.{rect_none}
-use Rattle.laws_memory.proofs.Pulls.{pull_row_turn}
 use Rattle.dots_pull.proofs.pull_row.Given as goal
 
 abbrev pub invariant-loop-k : goal.invariant-loop-k
