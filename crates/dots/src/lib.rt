@@ -1,6 +1,8 @@
 // Dots: the memory as bytes at rows·x + y. Rectangles are cleared, and all of it is erased.
 // Each contract gives the whole memory afterwards.
 // It may use the paper, the laws of the memory and the spans' growth, and it knows nothing of the glass, characters, windows or the state.
+// Here and above the module and the memory are two parameters, and no struct that says that they fit: where a contract asks that they do, it
+// had then to say that the module stays. So it is with glass, spans and view.
 #![tactic(auto)]
 
 ghost use Rattle.std.specs.Prelude.{◌≡◌, ◌≤◌, ◌<◌};

@@ -28,7 +28,8 @@ pub struct Module {
     pub widths: bool,
 }
 
-// How a cell is drawn: reverse 0 or 1, mixing 0 to 3, and the enlargement, 1 to 4 across and 1 to 2 down.
+// How a cell is drawn: reverse 0 or 1, mixing 0 to 3, and the enlargement, 1 to 4 across and 1 to 2 down. Here and below a setting, a mode
+// and a window are numbers and no enums: a lent record may hold any, and number 8 tests them.
 #[derive(Clone, Copy)]
 pub struct Style {
     pub reverse: u8,
@@ -166,7 +167,7 @@ pub struct Batch {
 }
 
 // A download's columns as they come: how many it has, 5 or 7, how many have come, and their bytes, leftmost first. One that has not
-// come is 0.
+// come is 0. They are seven fields and no array, for speed: the state that goes round with each byte holds none.
 #[derive(Clone, Copy, PartialEq, Eq, Default)]
 pub struct Columns {
     pub width: u8,
@@ -344,7 +345,8 @@ pub enum Outcome {
     NotStored,
 }
 
-// Why a call was refused: the numbers 1 to 8, 20 and 21, or that it was not.
+// Why a call was refused: the numbers 1 to 8, 20 and 21, or that it was not, which is the number 0. No call answers a Result: a refused one
+// hands its state back too (document 01; demands `refused`), and the paper's answers have both.
 #[derive(Clone, Copy, PartialEq, Eq)]
 pub enum Refusal {
     Accepted,

@@ -6,7 +6,8 @@ ghost use Rattle.std.specs.Prelude.{◌≡◌, ℕ, ◌<◌, ◌≤◌, true, fa
 ghost use Rattle.telegrams_good.specs.Frames.{Frames};
 ghost use Rattle.paper.specs.Telegrams.{framed, good, first_good};
 
-// Whether the bytes from `place` on are a telegram's but for the check byte, which the piece has too.
+// Whether the bytes from `place` on are a telegram's but for the check byte, which the piece has too. By places: with a pattern of the slice
+// the arms that fall through told nothing of the first byte, and the proof did not close.
 fn is_framed(piece: &[u8], place: usize) -> bool
     requires { place < length piece.now }
     ensures { result ≡ framed piece.now place }
