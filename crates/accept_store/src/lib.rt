@@ -17,7 +17,7 @@ fn all_zero(bytes: &[u8]) -> bool
     bytes.iter().fold(true, |zero, &b| zero & (b == 0))
 }
 
-// A free place is all zeros.
+// A free place is all zeros. Here and below a place is its number, and k < 16 a clause of each: so the paper's definitions have it.
 fn is_free(ds: &[u8; STORE], k: usize) -> bool
     requires { k < 16 }
     ensures { result ≡ is_free ds.now k }

@@ -24,7 +24,7 @@ fn is_blank(w: Window) -> bool
     w == Window::default()
 }
 
-// The rectangle has a column and a row, and does not leave the memory.
+// The rectangle has a column and a row, and does not leave the memory. Four numbers, as the paper's `fits` and a define command have them.
 #[tactic(auto, unfolding(paper::specs::Settings::fits))]
 pub fn fits(g: Module, left: u16, top: u16, width: u16, height: u16) -> bool
     ensures { result ≡ fits g left top width height }

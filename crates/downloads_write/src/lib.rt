@@ -15,7 +15,7 @@ fn place_for(ds: &[u8], code: u8) -> Option<usize>
     downloads::place(ds, code).or_else(|| downloads::place(ds, 0))
 }
 
-// Writes a place. Past the last one there is nothing to write, or as many bytes as there are.
+// Writes a place. None is the end, where the paper's `with_place` writes as many bytes as there are, most often none.
 fn write_place(ds: &mut [u8], place: Option<usize>, bytes: [u8; 9])
     requires { unwrap_or place (places_in ds.old) ≤ places_in ds.old }
     ensures { ds.new ≡ with_place ds.old (unwrap_or place (places_in ds.old)) bytes }
