@@ -1,5 +1,5 @@
 -- `rest_blank` meets its contract: past those that have come, column by column. Assumes nothing.
-use Rattle.std.proofs.Common.{rules, ◌≡◌, ℕ, zero, suc, Bool, true, eqb, List, [], ◌∷◌, drop, refl, ◌∙◌}
+use Rattle.std.proofs.Common.{rules, ◌≡◌, ℕ, zero, suc, true, eqb, [], ◌∷◌, drop, refl, ◌∙◌}
 use borrow.Author.Tests.{tests, lt-ltb}
 use native.Mathlib.Omega.{arith}
 use Rattle.std.proofs.lemmas.Iterator.{YieldsList-from_slice}

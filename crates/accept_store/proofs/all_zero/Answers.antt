@@ -1,9 +1,8 @@
 -- `accept_store::all_zero` meets its contract: the fold tests each byte. Assumes nothing.
-use Rattle.std.proofs.Common.{◌≡◌, true, eqb, ◌∙◌}
+use Rattle.std.proofs.Common.{true, eqb, ◌∙◌}
 use mathlib.Core.Bool.{◌&&◌}
 use borrow.Author.Rules.{rules}
 use borrow.Author.Tests.{tests}
-use Rattle.std.specs.List.{fold}
 use Rattle.std.proofs.lemmas.Iterator.{YieldsList-from_slice}
 use Rattle.std.proofs.lemmas.Iterator.Consumers.{fold_from_yields_List}
 use Rattle.accept_store.proofs.Zeros.{fold_tested}

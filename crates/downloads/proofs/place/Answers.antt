@@ -1,5 +1,5 @@
 -- `downloads::place` meets its contract: a place is a chunk, and its code the chunk's first byte. Assumes nothing.
-use Rattle.std.proofs.Common.{rules, ◌≡◌, ℕ, zero, suc, ◌<◌, ◌*◌, ◌/◌, ◌+◌, length, get_or, drop, Option, None, Some, cond, not, eqb, Bool, true, false, List, [], ◌∷◌, ◌++◌, refl, ap, sym, ◌∙◌, zero-add, add-zero}
+use Rattle.std.proofs.Common.{rules, ◌≡◌, ℕ, zero, suc, ◌<◌, ◌*◌, ◌/◌, ◌+◌, length, get_or, drop, cond, not, eqb, Bool, true, false, List, [], ◌∷◌, ◌++◌, refl, ap, sym, ◌∙◌, zero-add, add-zero}
 use native.Mathlib.Omega.{arith}
 use borrow.Author.Tests.{tests}
 use Rattle.std.proofs.Math.Nat.{mul-suc}
@@ -12,7 +12,7 @@ use Rattle.std.proofs.Math.Seq.{drop-drop}
 use Rattle.std.proofs.lemmas.Iterator.{YieldsList}
 use Rattle.std.proofs.lemmas.Iterator.Splits.{YieldsList-from_shown_while}
 use Rattle.std.proofs.lemmas.Iterator.Search.{position_from_yields_List}
-use Rattle.paper.specs.Downloads.{place, is_stored, code_at, places_in, seek}
+use Rattle.paper.specs.Downloads.{place, places_in, seek}
 use Rattle.laws_downloads.proofs.Places.{holds}
 use Rattle.downloads.proofs.place.Goals as goal
 

@@ -1,5 +1,5 @@
 -- `downloads_write::write_place` meets its contract: the bytes stand over the place, as far as there are any. Assumes nothing.
-use Rattle.std.proofs.Common.{◌≡◌, ◌-◌, ◌+◌, ◌*◌, refl, sym, ap, ◌∙◌}
+use Rattle.std.proofs.Common.{◌≡◌, ◌-◌, ◌+◌, ◌*◌}
 use borrow.Author.Rules.{rules}
 use native.Mathlib.Omega.{arith}
 use Rattle.downloads_write.proofs.Written.{written}
