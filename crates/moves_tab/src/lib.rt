@@ -13,7 +13,8 @@ ghost use Rattle.moves.specs.Does.{Does};
 use moves::Spot;
 use paper::{Module, View};
 
-// The next line of cells, or the first one: from the line's start, the one below.
+// The next line of cells, or the first one: from the line's start, the one below. (moves_views::line_down keeps its column where this one begins
+// a line: two definitions of the paper, and two functions.)
 fn next_line(v: View, l: usize) -> View
     requires { (v.y < v.height) × (l ≤ v.height) × (v.height < 65536) }
     ensures { result ≡ next_line v l }

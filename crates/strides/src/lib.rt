@@ -65,7 +65,8 @@ pub fn in_range(v: View, p: Spot) -> Spot
 
 // ---- reverse and mixing
 
-// Whether the command at i is a reverse or a mixing that stands whole in the piece, its parameter in its domain.
+// Whether the command at i is a reverse or a mixing that stands whole in the piece, its parameter in its domain. Its tests are joined by &, which
+// has no jumps.
 pub fn is_styling(piece: &[u8], i: usize) -> bool
     requires { i < length piece.now }
     ensures { result ≡ is_styling piece.now i }

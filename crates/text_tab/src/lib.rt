@@ -16,7 +16,8 @@ use glyphs::Cell;
 use moves::Spot;
 use paper::Module;
 
-// Draws the cell of a code at the cursor, then HT.
+// Draws the cell of a code at the cursor, then HT. (Here, below and in runs::push what is drawn differs, or the move behind it, and each contract
+// names its own definition: one function that takes either is no plainer.)
 pub fn draw_tab(
     g: Module,
     mem: &mut [u8],
