@@ -58,6 +58,13 @@ pub fn cell_of(g: Module, w: u8, style: Style) -> Cell
     }
 }
 
+// What characters are drawn from: the font, and the downloads in force, none where the switch is off.
+#[derive(Clone, Copy)]
+pub struct Faces<'a> {
+    pub font: &'a [u8],
+    pub own: &'a [u8],
+}
+
 // A code's columns in the font.
 pub fn font_glyph(g: Module, font: &[u8], code: u8) -> &[u8]
     requires { (length font.now ≡ font_length g) × (0x20 ≤ code) }

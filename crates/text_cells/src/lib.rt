@@ -1,15 +1,16 @@
 // Cells of text: what of a cell at the cursor lies in the range, and the cell of a code that may be a download.
 // It may use glyphs, cells and cells_any; it moves no cursor and marks nothing.
-// The downloads lent to it are those in force: none where the switch is off.
 #![tactic(auto)]
 
 ghost use Rattle.std.specs.Prelude.{◌≡◌, ◌+◌, ◌<◌, ◌≤◌, length};
 ghost use Rattle.paper.specs.Panel.{font_length};
-ghost use Rattle.paper.specs.Downloads.{faces, glyph_of};
+ghost use Rattle.paper.specs.Downloads.{glyph_of};
 ghost use Rattle.paper.specs.Cells.{part_of};
 ghost use Rattle.laws_memory.specs.Rectangles.{Fits, Within};
+ghost use Rattle.glyphs.specs.Faces.{faces_of};
 ghost use Rattle.cells.specs.Drawn.{drawn};
 
+use glyphs::Faces;
 use paper::{Module, Rect, Style, View};
 
 // The part of the cell at the cursor that lies in the range: its dots outside are dropped.
@@ -36,20 +37,19 @@ pub fn inside(v: View, c: usize, l: usize) -> Rect
 pub fn draw_found(
     g: Module,
     mem: &mut [u8],
-    font: &[u8],
-    own: &[u8],
+    faces: Faces<'_>,
     code: u8,
     w: u8,
     style: Style,
     r: Rect,
 )
-    requires within { Within g r × Fits g mem.old × (length font.now ≡ font_length g) × (0x20 ≤ code) }
+    requires within { Within g r × Fits g mem.old × (length faces.font.now ≡ font_length g) × (0x20 ≤ code) }
     requires le_across { (1 ≤ style.across) × (style.down ≤ 2) × (r.height ≤ style.down) }
-    ensures { mem.new ≡ drawn g (glyph_of g (faces font.now own.now) code) w style r mem.old }
+    ensures { mem.new ≡ drawn g (glyph_of g (faces_of faces.entry) code) w style r mem.old }
 {
-    let cols = glyphs::own_glyph(own, code);
+    let cols = glyphs::own_glyph(faces.own, code);
     if cols.len() == 0 {
-        let fonts = glyphs::font_glyph(g, font, code);
+        let fonts = glyphs::font_glyph(g, faces.font, code);
         cells::draw_alike(g, mem, fonts, w, style, r);
         return;
     }
@@ -60,21 +60,20 @@ pub fn draw_found(
 pub fn draw_code(
     g: Module,
     mem: &mut [u8],
-    font: &[u8],
-    own: &[u8],
+    faces: Faces<'_>,
     code: u8,
     w: u8,
     style: Style,
     r: Rect,
 )
-    requires within { Within g r × Fits g mem.old × (length font.now ≡ font_length g) × (0x20 ≤ code) }
+    requires within { Within g r × Fits g mem.old × (length faces.font.now ≡ font_length g) × (0x20 ≤ code) }
     requires le_across { (1 ≤ style.across) × (style.down ≤ 2) × (r.height ≤ style.down) }
-    ensures { mem.new ≡ drawn g (glyph_of g (faces font.now own.now) code) w style r mem.old }
+    ensures { mem.new ≡ drawn g (glyph_of g (faces_of faces.entry) code) w style r mem.old }
 {
-    if own.len() == 0 {
-        let cols = glyphs::font_glyph(g, font, code);
+    if faces.own.len() == 0 {
+        let cols = glyphs::font_glyph(g, faces.font, code);
         cells::draw_alike(g, mem, cols, w, style, r);
         return;
     }
-    draw_found(g, mem, font, own, code, w, style, r);
+    draw_found(g, mem, faces, code, w, style, r);
 }

@@ -7,6 +7,7 @@ ghost use Rattle.std.specs.Prelude.{◌≡◌, ◌+◌, ◌<◌, ◌≤◌};
 ghost use Rattle.turns_light.specs.Turns.{Light, Due, Turned};
 ghost use Rattle.turns_stretch.specs.Desk.{on_desk, turned_to};
 
+use glyphs::Faces;
 use moves::Spot;
 use paper::{Fed, Module, Outcome, Settings, State, Style};
 use turns_light::Turn;
@@ -49,6 +50,7 @@ pub fn feed_light(
     let v = s.settings;
     let w = v.width;
     let own = downloads::in_force(store, v.switch);
+    let faces = Faces { font, own };
     let p0 = carry_dots::spot_of(g, s);
     let range = p0.view;
     let mut p = p0;
@@ -64,7 +66,7 @@ pub fn feed_light(
         let b = piece[i];
         outcome = Outcome::Carried;
         if 0x20 <= b {
-            let r = runs::run(g, mem, font, own, p, w, style, piece, i);
+            let r = runs::run(g, mem, faces, p, w, style, piece, i);
             let at = r.at;
             let q = r.spot;
             carried += at - i;

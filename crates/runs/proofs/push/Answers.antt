@@ -1,6 +1,6 @@
 -- `runs::push` meets its contract: HT in MD3's last cell pushes the line left. Assumes nothing.
 use native.Mathlib.Omega.{arith}
-use Rattle.paper.specs.Downloads.{faces}
+use Rattle.glyphs.specs.Faces.{faces_of}
 use Rattle.paper.specs.Cells.{draw_stroke}
 use Rattle.cells_columns.specs.DrawnAs.{drawn_as}
 use Rattle.moves.proofs.Done.{does_stroke}
@@ -24,7 +24,7 @@ pub returns : goal.returns
 unfolding drawn_as
 returns c =
     let a = c.args in
-    let font = faces a.font.now a.own.now in
+    let font = faces_of a.faces in
     let size = c.requires.usable.1.1.0.cell in
     let f = c.requires.mode_value in
     drawn_pushed a.g a.p.spans a.mem.now font a.cell.blanks a.cell.style a.code a.p.view f.0

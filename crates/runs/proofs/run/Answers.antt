@@ -1,7 +1,7 @@
 -- `runs::run` meets its contract. The loop's invariant: what is left gives what the whole run gives. Assumes nothing.
 use mathlib.Core.Path.{◌∙◌}
 use native.Mathlib.Omega.{arith}
-use Rattle.paper.specs.Downloads.{faces}
+use Rattle.glyphs.specs.Faces.{faces_of}
 use Rattle.paper.specs.Cells.{cell_width, cell_height}
 use Rattle.laws_state.proofs.Runs.{within_room}
 use Rattle.runs_line.proofs.Lining.{went_begin}
@@ -11,7 +11,7 @@ use Rattle.runs.proofs.run.Goals as goal
 pub loop-i-init : goal.loop-i-init
 loop-i-init c =
     let a = c.args in
-    went_begin a.g (faces a.font.now a.own.now) _ _ a.p a.mem.now a.piece.now a.from c.requires.usable.1.0.place
+    went_begin a.g (faces_of a.faces) _ _ a.p a.mem.now a.piece.now a.from c.requires.usable.1.0.place
     c.requires.from_in_bounds.0
 
 pub shape_of-mem-then-b-lt32 : goal.shape_of-mem-then-b-lt32
@@ -21,7 +21,7 @@ shape_of-mem-then-b-lt32 c =
 pub returns-then-b-lt32 : goal.returns-then-b-lt32
 returns-then-b-lt32 c =
     let a = c.args in
-    ran_stop a.g (faces a.font.now a.own.now) a.w a.style a.p a.mem.now a.piece.now a.from c.loop-i.q c.loop-i.mem
+    ran_stop a.g (faces_of a.faces) a.w a.style a.p a.mem.now a.piece.now a.from c.loop-i.q c.loop-i.mem
     c.loop-i.i (rw c.cell_of-cell.ensures at c.loop-i.invariant) (omega arith) c.requires.from_in_bounds.1 (omega arith)
 
 pub stretch-r-requires : goal.stretch-r-requires
@@ -43,7 +43,7 @@ loop-i-smaller c =
 pub loop-i-preserved : goal.loop-i-preserved
 loop-i-preserved c =
     let a = c.args in
-    went_on a.g (faces a.font.now a.own.now) _ _ a.p a.mem.now a.piece.now a.from c.loop-i.q c.loop-i.mem
+    went_on a.g (faces_of a.faces) _ _ a.p a.mem.now a.piece.now a.from c.loop-i.q c.loop-i.mem
     c.loop-i.i c.loop-i.invariant c.stretch-r.ensures.1
 
 pub shape_of-mem : goal.shape_of-mem
@@ -53,5 +53,5 @@ shape_of-mem c =
 pub returns : goal.returns
 returns c =
     let a = c.args in
-    ran_end a.g (faces a.font.now a.own.now) a.w a.style a.p a.mem.now a.piece.now a.from c.loop-i.q c.loop-i.mem
+    ran_end a.g (faces_of a.faces) a.w a.style a.p a.mem.now a.piece.now a.from c.loop-i.q c.loop-i.mem
     c.loop-i.i (rw c.cell_of-cell.ensures at c.loop-i.invariant) c.requires.from_in_bounds.0 (omega arith)

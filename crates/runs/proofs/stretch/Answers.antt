@@ -1,6 +1,6 @@
 -- `runs::stretch` meets its contract: a line, or one character. Assumes nothing.
 use native.Mathlib.Omega.{arith}
-use Rattle.paper.specs.Downloads.{faces}
+use Rattle.glyphs.specs.Faces.{faces_of}
 use Rattle.runs.proofs.Lines.{room_after}
 use Rattle.runs_line.proofs.Lining.{went_begin, went_next}
 use Rattle.text_cells.proofs.Steps.{sized_room}
@@ -22,7 +22,7 @@ last-spot-requires c =
 pub returns-else-v-cell : goal.returns-else-v-cell
 returns-else-v-cell c =
     let a = c.args in
-    let font = faces a.font.now a.own.now in
+    let font = faces_of a.faces in
     let w = a.cell.blanks in
     let y = a.cell.style in
     let room = c.requires.usable.1.0 in

@@ -5,7 +5,7 @@ use Prim.Native.Nat.{◌+◌, ◌*◌, ◌<◌, ◌≤◌}
 use native.Mathlib.Omega.{arith}
 use lib.ListN.{length, get_or}
 use Rattle.paper.specs.declared.Rect.{Rect}
-use Rattle.paper.specs.Downloads.{faces}
+use Rattle.glyphs.specs.Faces.{faces_of}
 use Rattle.paper.specs.Strokes.{rect_at}
 use Rattle.text_cells.proofs.Steps.{sized_room}
 use Rattle.runs_line.proofs.Lining.{lining_begin, room_for, lining_next, lining_end}
@@ -25,7 +25,7 @@ more c =
 pub loop-g-init : goal.loop-g-init
 loop-g-init c =
     let a = c.args in (
-      lining_begin a.g (faces a.font.now a.own.now) a.cell.blanks a.cell.style a.p a.mem.now a.piece.now a.from
+      lining_begin a.g (faces_of a.faces) a.cell.blanks a.cell.style a.p a.mem.now a.piece.now a.from
           a.cell.rows c.requires.usable.1.0.place c.requires.from_in_bounds.0,
       refl,
     )
@@ -80,7 +80,7 @@ loop-g-preserved c =
     let f = more (goal.at.loop-g-preserved c).In-loop-g in
     let room = sized_room a.cell size c.requires.usable.1.0 in (
       rw size.columns
-          (lining_next a.g (faces a.font.now a.own.now) w y a.p a.mem.now a.piece.now a.from a.cell.rows c.loop-g.mem
+          (lining_next a.g (faces_of a.faces) w y a.p a.mem.now a.piece.now a.from a.cell.rows c.loop-g.mem
           c.loop-g.r.left c.loop-g.i c.loop-g.invariant.0 room size.rows f.0 f.1 (rw size.columns at f.2) c.requires.columns_bound.1
           (rw (c.loop-g.invariant.1, size.columns) at c.draw_code.ensures) c.draw_code.auto.mem),
       ap (λ (q : Rect). rect_at (c.loop-g.r.left + a.cell.columns) q.top q.width q.height) c.loop-g.invariant.1,
@@ -100,7 +100,7 @@ returns c =
     let a = c.args in
     let k = c.loop-g.invariant.0 in
     rw (c.drawn_to.ensures, ap (λ (q : Rect). q.height) c.loop-g.invariant.1) (
-      lining_end a.g (faces a.font.now a.own.now) a.cell.blanks a.cell.style a.p a.mem.now a.piece.now a.from
+      lining_end a.g (faces_of a.faces) a.cell.blanks a.cell.style a.p a.mem.now a.piece.now a.from
           a.cell.rows c.loop-g.mem c.loop-g.r.left c.loop-g.i k a.cell.columns c.requires.from_in_bounds.1 c.requires.columns_bound.0
           (sym c.goes_on.ensures ∙ c.loop-g-test.false),
       k.went,

@@ -3,7 +3,7 @@
 use Prim.Native.Nat.{◌+◌}
 use native.Mathlib.Omega.{arith}
 use borrow.Author.Tests.{le-leb, lt-leb, eq-eqb, ne_eqb}
-use Rattle.paper.specs.Downloads.{faces}
+use Rattle.glyphs.specs.Faces.{faces_of}
 use Rattle.paper.specs.Cells.{cell_width, cell_height}
 use Rattle.paper.specs.Moves.{ht_of, draw_tab, blank_tab, character_of}
 use Rattle.laws_state.proofs.Moves.{ht_kept, blank_kept}
@@ -32,7 +32,7 @@ returns-then-v-eq3 c =
     let width = cell_width a.g a.cell.blanks a.cell.style in
     rw (lt-leb (a.p.view.x + width) a.p.view.width (omega arith), eq-eqb _ _ c.if-v-eq3.true)
     (does_after (ht_of a.g a.p.view width (cell_height a.cell.style))
-    (draw_tab a.g (faces a.font.now a.own.now) a.cell.blanks a.cell.style a.code)
+    (draw_tab a.g (faces_of a.faces) a.cell.blanks a.cell.style a.code)
     (rw (size.columns, size.rows) at c.tab-stepped.ensures) c.draw_tab-then-v-eq3.ensures)
 
 pub draw_tab-requires-else-v-eq3 : goal.draw_tab-requires-else-v-eq3
@@ -50,5 +50,5 @@ returns-else-v-eq3 c =
     let width = cell_width a.g a.cell.blanks a.cell.style in
     rw (lt-leb (a.p.view.x + width) a.p.view.width (omega arith), ne_eqb _ _ c.if-v-eq3.false)
     (does_after (blank_tab a.g a.cell.blanks a.cell.style a.p.view)
-    (draw_tab a.g (faces a.font.now a.own.now) a.cell.blanks a.cell.style a.code)
+    (draw_tab a.g (faces_of a.faces) a.cell.blanks a.cell.style a.code)
     c.blank_tab-blanked.ensures c.draw_tab-else-v-eq3.ensures)

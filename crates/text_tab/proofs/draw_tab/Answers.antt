@@ -1,6 +1,6 @@
 -- `text_tab::draw_tab` meets its contract. Assumes nothing.
 use native.Mathlib.Omega.{arith}
-use Rattle.paper.specs.Downloads.{faces}
+use Rattle.glyphs.specs.Faces.{faces_of}
 use Rattle.paper.specs.Cells.{cell_width, cell_height, draw_stroke}
 use Rattle.paper.specs.Moves.{ht_of, draw_tab}
 use Rattle.cells_columns.specs.DrawnAs.{drawn_as}
@@ -24,7 +24,7 @@ pub returns : goal.returns
 unfolding draw_tab drawn_as
 returns c =
     let a = c.args in
-    let f = faces a.font.now a.own.now in
+    let f = faces_of a.faces in
     let size = c.requires.1.1.0.cell in
     does_after _ (λ q. ht_of a.g q (cell_width a.g a.cell.blanks a.cell.style) (cell_height a.cell.style))
     (does_stroke (draw_stroke a.g f a.cell.blanks a.cell.style a.code a.p.view) a.p.view
