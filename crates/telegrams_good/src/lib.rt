@@ -33,32 +33,36 @@ fn frame(piece: &[u8], from: usize) -> Option<usize>
     ensures found { IfSome result (λ p. (p < length piece.now) × Frames piece.now from p) }
     ensures none { IfNone result ((p : ℕ) → from ≤ p → p < length piece.now → framed piece.now p ≡ false) }
 {
-    (from..piece.len()).find(
-        |&place|
-            requires { place < length piece.now }
-        { is_framed(piece, place) },
-    )
+    for place in from..piece.len() {
+        if is_framed(piece, place) {
+            return Some(place);
+        }
+    }
+    None
 }
 
 // The first place from `from` on from which a good telegram can be read, whoever's. The outer loop goes over the places, the inner over the
 // check bytes.
-pub fn next(piece: &[u8], mut from: usize) -> Option<usize>
+pub fn next(piece: &[u8], from: usize) -> Option<usize>
     ensures found { IfSome result (λ p. (p ≡ first_good piece.now from) × (good piece.now p ≡ true)) }
     ensures none { IfNone result (length piece.now ≤ first_good piece.now from) }
 {
-    'places: loop {
-        let place = frame(piece, from)?;
+    let mut found = frame(piece, from);
+    'places: while let Some(place) = found {
         let size = usize::from(piece[place + 2]) + 4;
-        let check = piece[place + size];
         let mut sum = 0;
-        let mut bytes = &piece[place..place + size];
-        'bytes: while let [byte, rest @ ..] = bytes {
-            sum ^= byte;
-            bytes = rest;
-            if rest.is_empty() && sum == check {
-                break 'places Some(place);
+        let mut k = 0;
+        // By number: with a pattern of the slice a byte takes 0.8 ns for 0.1, and with `for` 12 times as long.
+        'bytes: while k != size {
+            sum ^= piece[place + k];
+            k += 1;
+            if k == size {
+                if sum == piece[place + size] {
+                    break 'places;
+                }
             }
         }
-        from = place + 1;
+        found = frame(piece, place + 1);
     }
+    found
 }

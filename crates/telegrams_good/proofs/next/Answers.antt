@@ -1,44 +1,80 @@
 -- `next` meets its contract. Assumes nothing.
-use mathlib.Core.Path.{refl, sym, ◌∙◌}
-use mathlib.Core.Logic.{⊎_elim}
+use mathlib.Core.Path.{refl, ap}
+use Prim.Native.Nat.{ℕ, ◌+◌}
 use native.Mathlib.Omega.{arith}
-use borrow.Author.Tests.{eqb-true, eqb-false}
-use Rattle.std.proofs.Math.Nat.{add-sub_cancel_left}
-use Rattle.telegrams_good.proofs.Turns.{none_left, framed_here, first_turn, found_here, next_turn, next_place, check_byte}
+use Rattle.telegrams_good.proofs.Turns.{comes, here, fewer, framed_here, first_turn, ahead, some_left, found_here, bad_here, next_turn, next_place}
 use Rattle.telegrams_good.proofs.next.Goals as goal
 
-pub returns-in_err-place-clause-none : goal.returns-in_err-place-clause-none
-returns-in_err-place-clause-none c =
-    rw (c.from_residual.ensures, ← c.places.invariant) (none_left _ _ c.in_err-place.ensures.none)
+pub places-init : goal.places-init
+places-init c =
+    comes _ _ _ _ c.frame-found.ensures.found c.frame-found.ensures.none refl
+
+pub overflow_add-place : goal.overflow_add-place
+overflow_add-place c =
+    let f = framed_here c.places.invariant c.in-Some.is in omega (arith, f.inside)
 
 pub bounds-piece-place : goal.bounds-piece-place
 bounds-piece-place c =
-    let f = framed_here c.in_ok-place.ensures.found in omega (arith, f.inside)
-
-pub bounds-piece-place-in-places : goal.bounds-piece-place-in-places
-bounds-piece-place-in-places c =
-    let f = framed_here c.in_ok-place.ensures.found in omega (arith, f.inside, c.from-size.ensures)
-
-pub slice_bounds-bytes-end : goal.slice_bounds-bytes-end
-slice_bounds-bytes-end c =
-    let f = framed_here c.in_ok-place.ensures.found in omega (arith, f.inside, c.from-size.ensures)
+    let f = framed_here c.places.invariant c.in-Some.is in omega (arith, f.inside)
 
 pub bytes-init : goal.bytes-init
 bytes-init c =
-    first_turn c.in_ok-place.ensures.found c.places.invariant c.from-size.ensures (rw add-sub_cancel_left)
+    first_turn c.places.invariant c.in-Some.is (ap (λ (n : ℕ). n + 4) c.from-size.ensures)
+
+pub overflow_add-sum : goal.overflow_add-sum
+overflow_add-sum c =
+    let t = c.bytes.invariant in omega (arith, ahead t, t.upto)
+
+pub bounds-piece-place-in-bytes : goal.bounds-piece-place-in-bytes
+bounds-piece-place-in-bytes c =
+    let t = c.bytes.invariant in omega (arith, ahead t, some_left t c.bytes-test.true)
+
+pub overflow_add-k : goal.overflow_add-k
+overflow_add-k c =
+    let t = c.bytes.invariant in omega (arith, ahead t, some_left t c.bytes-test.true)
+
+pub overflow_add-place-then-k-size : goal.overflow_add-place-then-k-size
+overflow_add-place-then-k-size c =
+    omega (arith, ahead c.bytes.invariant)
+
+pub bounds-piece-place-then-k-size : goal.bounds-piece-place-then-k-size
+bounds-piece-place-then-k-size c =
+    ahead c.bytes.invariant
+
+pub bytes-smaller-else-sum-piece : goal.bytes-smaller-else-sum-piece
+bytes-smaller-else-sum-piece c =
+    let t = c.bytes.invariant in omega (arith, some_left t c.bytes-test.true)
+
+pub bytes-preserved-else-sum-piece : goal.bytes-preserved-else-sum-piece
+bytes-preserved-else-sum-piece c =
+    let t = c.bytes.invariant in
+    let h = some_left t c.bytes-test.true in next_turn t h (λ l. bad_here t h l c.if-sum-piece.false)
+
+pub bytes-smaller : goal.bytes-smaller
+bytes-smaller c =
+    let t = c.bytes.invariant in omega (arith, some_left t c.bytes-test.true)
 
 pub bytes-preserved : goal.bytes-preserved
 bytes-preserved c =
-    let t = c.bytes.invariant in
-    next_turn t c.in-len1-up.len_at_least refl
-    (λ z. ⊎_elim (λ h e. h.1 (e ∙ sym (check_byte _ _ c.from-size.ensures))) (λ h. absurd (omega (arith, eqb-false _ _ (sym c.is_empty.ensures ∙ h)))) c.else-is_empty.either)
+    let t = c.bytes.invariant in next_turn t (some_left t c.bytes-test.true) (λ l. absurd (c.if-k-size.false l))
+
+pub overflow_add-place-in-Some : goal.overflow_add-place-in-Some
+overflow_add-place-in-Some c =
+    omega (arith, ahead c.bytes.invariant)
+
+pub places-smaller : goal.places-smaller
+places-smaller c =
+    rw c.in-Some.is (fewer _ _ _ c.frame-found-in-Some.ensures.found (here c.places.invariant c.in-Some.is).0)
 
 pub places-preserved : goal.places-preserved
 places-preserved c =
-    next_place c.bytes.invariant c.in_default.len_below
+    comes _ _ _ _ c.frame-found-in-Some.ensures.found c.frame-found-in-Some.ensures.none (next_place c.bytes.invariant c.bytes-test.false)
 
-pub returns-clause-found : goal.returns-clause-found
-returns-clause-found c =
+pub returns-then-sum-piece-clause-found : goal.returns-then-sum-piece-clause-found
+returns-then-sum-piece-clause-found c =
     let t = c.bytes.invariant in
-    let z = eqb-true _ _ (sym c.is_empty.ensures ∙ c.if-is_empty.true) in
-    found_here t c.in-len1-up.len_at_least refl (omega (arith, z)) (c.if-sum-check.true ∙ check_byte _ _ c.from-size.ensures)
+    found_here t (some_left t c.bytes-test.true) c.if-k-size.true c.if-sum-piece.true
+
+pub returns-in_default-clause-none : goal.returns-in_default-clause-none
+returns-in_default-clause-none c =
+    c.places.invariant.nowhere
