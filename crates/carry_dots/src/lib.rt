@@ -1,8 +1,8 @@
 // Carrying out the commands that write on memory whatever the cell, CLR and initialise; and the state's spot.
 // It may use carry_state for the answer's form, state and state_views for the state's parts, moves and dots for what is written, and
 // downloads_write for their end.
-// Each contract says that what was done is what the paper's meaning says. `held` stays a parameter beside the state, from which
-// carry_command reads it in one place.
+// Each contract says that what was done is what the paper's meaning says. `held` stays a parameter beside the state: a rule of
+// the house (docs/DECISIONS, "Forms of the code").
 #![tactic(auto)]
 
 ghost use Rattle.std.specs.Prelude.{◌≡◌, List, ℕ, ◌+◌, ◌≤◌, ◌<◌};

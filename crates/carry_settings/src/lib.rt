@@ -1,6 +1,6 @@
 // Carrying out what changes a setting, with its answers 14, 15, 11 in their order.
 // It may use accept_settings for a setting's domain, state_settings for what becomes of the settings; it knows nothing of memory.
-// `held` says whether a window is held: it stays a parameter beside the state, from which carry_command reads it in one place.
+// `held` says whether a window is held: a rule of the house (docs/DECISIONS, "Forms of the code") makes it a parameter of carrying.
 // Each contract says that the state and the outcome are those of the paper's meaning.
 #![tactic(auto)]
 

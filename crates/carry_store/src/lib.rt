@@ -3,7 +3,7 @@
 // It may use downloads_answer for what becomes of the downloads and for the answer, state for whether a window is held, carry_state for
 // the answer's form.
 // Each contract says that the state and the outcome are those of the paper's meaning, and the downloads those it leaves. `held` stays a
-// parameter beside the state, from which carry_command reads it in one place.
+// parameter beside the state: a rule of the house (docs/DECISIONS, "Forms of the code").
 #![tactic(auto)]
 
 ghost use Rattle.std.specs.Prelude.{◌≡◌, List, ℕ};

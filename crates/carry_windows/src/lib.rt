@@ -1,6 +1,6 @@
 // Carrying out what selects, defines and cancels a window, with its answers 15, 11, 17 in their order.
 // It may use accept_windows for which window there is and what fits, state for the state's parts; it knows nothing of memory.
-// `held` says whether a window is held: it stays a parameter beside the state, from which carry_command reads it in one place.
+// `held` says whether a window is held: a rule of the house (docs/DECISIONS, "Forms of the code") makes it a parameter of carrying.
 // Each contract says that the state and the outcome are those of the paper's meaning.
 #![tactic(auto)]
 

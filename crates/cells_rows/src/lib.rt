@@ -11,7 +11,7 @@ use glyphs_columns::Lift;
 use paper::Style;
 
 // A column's byte stored in n columns, which lie s apart from address a on. Written out for speed: as a loop digits 4 by 1 take 301
-// instructions a byte for 268. (cells_tall has `put_both` and `edge` over two bytes at once: one for both takes a trait with a store and its laws,
+// instructions a byte and not 268. (cells_tall has `put_both` and `edge` over two bytes at once: one for both takes a trait with a store and its laws,
 // no plainer.)
 fn put<const MIXING: u8>(mem: &mut [u8], a: usize, s: usize, n: u8, v: u8)
     requires { (1 ≤ n) × (n ≤ 4) × (a + s * n < length mem.old + s) × (s ≤ 65536) × (length mem.old ≤ 65536) }

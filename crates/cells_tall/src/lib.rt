@@ -28,7 +28,8 @@ fn reversed_both(style: Style, z: u16) -> u16
     if style.reverse == 1 { 65535 - z } else { z }
 }
 
-// The two bytes of a column, one below the other: in place of those that stand there, or flipping them.
+// The two bytes of a column, one below the other: in place of those that stand there, or flipping them. (By 256: with `from_le_bytes` it stayed
+// open that the byte read is below 256.)
 fn store(mem: &mut [u8], a: usize, flip: bool, z: u16)
     requires { (a + 1 < length mem.old) × (length mem.old ≤ 65536) }
     ensures { mem.new ≡ stacked (both_stroke flip (λ j. z)) 2 a 1 mem.old }

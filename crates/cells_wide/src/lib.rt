@@ -1,4 +1,4 @@
-// Enlarged cells in memory: a whole one by rows whose mixing is written out, a part of one column by column.
+// Enlarged cells in memory: a whole one by rows that have the mixing as a const parameter, a part of one column by column.
 // It may use the paper, the laws of what is laid into memory, the columns of glyphs, the rows of cells and their parts. It knows addresses,
 // and how far apart columns lie, but neither dots nor rectangles.
 #![tactic(auto)]

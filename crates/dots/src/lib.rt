@@ -1,8 +1,8 @@
 // Dots: the memory as bytes at rows·x + y. Rectangles are cleared, and all of it is erased.
 // Each contract gives the whole memory afterwards.
 // It may use the paper, the laws of the memory and the spans' growth, and it knows nothing of the glass, characters, windows or the state.
-// Here and above the module and the memory are two parameters, and no struct that says that they fit: where a contract asks that they do, it
-// had then to say that the module stays. So it is with glass, spans and view.
+// No struct holds the module and the memory, here or above, with that they fit as its invariant: lent by `&mut` it could change the module, so each of
+// the 40 contracts with `Fits` had to say that it does not. The same holds of memory with glass, spans and view.
 #![tactic(auto)]
 
 ghost use Rattle.std.specs.Prelude.{◌≡◌, ◌≤◌, ◌<◌};
@@ -42,7 +42,7 @@ pub fn clear(g: Module, mem: &mut [u8], r: Rect)
     }
 }
 
-// Zeroes all of memory, and marks all of it. (No `fill`: `clear` says it in the word of the contract, and is no longer.)
+// Zeroes all of memory, and marks all of it. (No `fill`: that its zeros are `cleared` of all of memory took a proof of its own.)
 pub fn erase(g: Module, mem: &mut [u8], spans: Spans) -> Spans
     requires { Fits g mem.old × ((g.columns < 65536) × (g.rows < 65536)) }
     ensures { (mem.new ≡ cleared g (memory_rect g) mem.old) × (result ≡ mark_rect (memory_rect g) spans) }

@@ -27,7 +27,7 @@ pub fn read_full(from: &mut impl Read, to: &mut [u8]) -> io::Result<usize>
 }
 
 // Puts argument i at the start of a word and answers its length, 0 if it is longer than the word; none behind the last argument.
-// The 0 stays: it is what this function, which README names, answered, and the programs take such an argument as an unknown one.
+// The 0 stays: it is what this function, which README speaks of, answered, and the programs take such an argument as an unknown one.
 pub fn argument(env: &impl Env, i: usize, word: &mut [u8]) -> Option<usize>
     ensures { IfSome result (λ n. n ≤ length word.new) }
 {

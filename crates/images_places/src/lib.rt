@@ -11,7 +11,7 @@ ghost use Rattle.images_places.specs.Places.{place_after, from_cursor};
 
 use paper::{Module, Style, View};
 
-// The place of an image's byte. A place that goes in stays two numbers, as the paper's ImageData has them.
+// The place of an image's byte. A place that goes in stays two numbers, as the paper's definitions take it.
 #[derive(Clone, Copy)]
 pub struct Place {
     pub column: u16,

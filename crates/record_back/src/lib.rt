@@ -1,6 +1,7 @@
 // The record's half-read part, read back: what is half read, from its case's number and its parameters.
 // It uses the paper, and record_half for the slots; docs/RECORD.md has the numbers.
-// Functions and no `From`: the types are the paper's and record_half's, and this crate's must-fail edits name it.
+// Functions and no `From`: an impl of it for the paper's and record_half's types could stand in record_half alone, and the edits record_back/..
+// are named after this crate.
 #![tactic(auto)]
 
 ghost use Rattle.std.specs.Prelude.{◌≡◌};

@@ -32,6 +32,7 @@ fn is_written(l: &[u8; STATE], hold: Option<Held>, half: Half) -> bool
 }
 
 // Whether all of them are 0. Each is looked at: with no way out of the turns the compiler tests many at once.
+// (accept_store has the like: one more use between crates for one line is no plainer.)
 fn is_zero(l: &[u8]) -> bool
     ensures { result ≡ fold (λ zero b. zero && (b == 0)) true l.now }
 {

@@ -1,5 +1,5 @@
 // The state that a record's bytes give, read by their places. docs/RECORD.md has the layout.
-// It uses the paper, record_parts for a 16-bit number and the settings, and record_bytes for the places. A part is read as there, by its place.
+// It uses the paper, record_parts for a 16-bit number and the settings, and record_bytes for the places. As in record_parts, a part is read by its place.
 #![tactic(auto)]
 
 ghost use Rattle.std.specs.Prelude.{◌≡◌, ◌+◌, ◌≤◌, length};

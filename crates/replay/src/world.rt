@@ -8,8 +8,8 @@ use replay_input::{Difference, Stored};
 // The longest memory and glass that are lent.
 const ROOM: usize = 4096;
 
-// Record, memory and glass, and how much of the two is lent; the stored bytes, with the font's place and length among them; and how
-// many calls were played.
+// Record, memory and glass, and how much of the two is lent, which changes from call to call while what lies behind it stays; the stored bytes,
+// with the font's place and length among them; and how many calls were played.
 #[derive(Drop)]
 pub struct World<'a> {
     record: [u8; RECORD],

@@ -1,5 +1,6 @@
 // Spans: a row's span grows to include a written column, and both rows' spans grow by a written rectangle: `mark`.
-// The span is lent by `&mut` to a thin function over one by value; `mark` grows its spans by `grown_by`, whose parameters are plain.
+// The span is lent by `&mut` to a thin function over one by value; `mark` grows its spans by `grown_by`, whose parameters are plain:
+// three functions of one contract, a named form (docs/DECISIONS).
 // It may use the paper and the laws of the memory.
 #![tactic(auto)]
 

@@ -3,7 +3,7 @@
 // range are state_views'.
 // Each contract is the paper's definition of the same name. State, Held and Window are the paper's, which holds no code: what is asked
 // of them is a function here and not a method. A window's number, 1 to 4, is asked for in each contract: the calls and commands that
-// bring one take any number, and answer one that is none.
+// bring one take any number, and refuse one that is no window's.
 #![tactic(auto)]
 
 ghost use Rattle.std.specs.Prelude.{◌≡◌, ◌-◌, ◌≤◌, set};

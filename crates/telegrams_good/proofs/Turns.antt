@@ -9,7 +9,7 @@ use lib.ListN.{length, get_or}
 use lib.Bits.{bit_xor}
 use lib.Dec.{ltb}
 use borrow.Author.Tests.{ltb-true, ltb-false}
-use Rattle.std.proofs.Common.{Option, Some, None, IfSome, IfNone}
+use Rattle.std.proofs.Common.{Option, Some, None, IfSome, IfNone, MatchOption}
 use Rattle.paper.specs.Telegrams.{part, folded, count_at, check_at, framed, good, first_good}
 use Rattle.laws_bytes.proofs.Tests.{by_test}
 use Rattle.laws_telegrams.proofs.Good.{Framed, framed_facts, not-framed, sum_right, sum_wrong, folded_more}
@@ -17,6 +17,15 @@ use Rattle.laws_telegrams.proofs.Search.{first_here, first_on, first_from, first
 use Rattle.telegrams_good.specs.Frames.{Frames}
 
 -- ---- the places at which no telegram's bytes are
+
+-- what looking at one after another finds
+pub framed_first : (piece : List ℕ) (p : ℕ) (r : Option ℕ)
+    → MatchOption r ((k : ℕ) → p ≤ k → k < length piece → framed piece k ≡ false)
+    (λ i. (p ≤ i) × (i < length piece) × (framed piece i ≡ true) × ((k : ℕ) → p ≤ k → k < i → framed piece k ≡ false))
+    → IfSome r (λ i. (i < length piece) × Frames piece p i) × IfNone r ((k : ℕ) → p ≤ k → k < length piece → framed piece k ≡ false)
+framed_first piece p None h = (tt, h)
+framed_first piece p (Some i) h =
+    ((h.1, record { from = h.0; before = λ q l u. let e = h.1 in let x : q < length piece = omega arith in (x, h.3 q l u); there = λ _. h.2 }), tt)
 
 -- from p to before r there is none: to one place more, and to a place that is framed
 module _ (piece : List ℕ) {p r : ℕ} (b : (q : ℕ) → p ≤ q → q < r → framed piece q ≡ false) where

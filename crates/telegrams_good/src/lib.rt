@@ -33,12 +33,11 @@ fn frame(piece: &[u8], from: usize) -> Option<usize>
     ensures found { IfSome result (λ p. (p < length piece.now) × Frames piece.now from p) }
     ensures none { IfNone result ((p : ℕ) → from ≤ p → p < length piece.now → framed piece.now p ≡ false) }
 {
-    for place in from..piece.len() {
-        if is_framed(piece, place) {
-            return Some(place);
-        }
-    }
-    None
+    (from..piece.len()).find(
+        |&place|
+            requires { place < length piece.now }
+        { is_framed(piece, place) },
+    )
 }
 
 // The first place from `from` on from which a good telegram can be read, whoever's. The outer loop goes over the places, the inner over the
@@ -52,14 +51,12 @@ pub fn next(piece: &[u8], from: usize) -> Option<usize>
         let size = usize::from(piece[place + 2]) + 4;
         let mut sum = 0;
         let mut k = 0;
-        // By number: with a pattern of the slice a byte takes 0.8 ns for 0.1, and with `for` 12 times as long.
+        // By number: with a pattern of the slice a byte takes 0.8 ns and not 0.1, and with `for` 12 times as long.
         'bytes: while k != size {
             sum ^= piece[place + k];
             k += 1;
-            if k == size {
-                if sum == piece[place + size] {
-                    break 'places;
-                }
+            if k == size && sum == piece[place + size] {
+                break 'places;
             }
         }
         found = frame(piece, place + 1);

@@ -36,7 +36,7 @@ fn worth_of(glass: &[u8; 224], x: usize, y: usize, worth: u8) -> u8
 }
 
 // Byte k of line y: eight dots, the leftmost the highest bit, 1 for one that is lit.
-// Eight terms, and no fold: its definition `byte_of` has them, and the edit `pbm_bits_reversed` swaps the worth of two.
+// Eight terms and no loop, which is no plainer: its sum would need an invariant that it stays below 256.
 pub fn pbm_byte(glass: &[u8; 224], k: usize, y: usize) -> u8
     requires { (k < 14) × (y < 16) }
     ensures { result ≡ pbm_byte panel glass.now k y }

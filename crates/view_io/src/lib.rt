@@ -9,7 +9,7 @@ use paper::Refusal;
 use std::io::{Eprint, Read};
 use std::{fmt, io};
 
-// Why a program ends early: what is wrong with its input or with an address, which is none where it is above 255; or an error of its
+// Why a program ends early: what is wrong with its input or with an address (none: the number is above 255); or an error of its
 // reader or writer.
 #[derive(Debug, Drop)]
 pub enum Stop {

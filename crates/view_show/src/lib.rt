@@ -28,7 +28,8 @@ fn is_half_read(s: State) -> bool {
 }
 
 // Plays a stream on a fresh panel and refreshes the glass: its counts and its dots are document 01's.
-// Memory, store and glass are lent apart, and in no struct of arrays: its clause is of those of any length.
+// Memory, store and glass are lent apart, and in no struct of arrays: its clause holds whatever their lengths. (play_link has
+// its frame too, but feeds a link: the clause is of one feed.)
 fn play(font: &[u8], stream: &[u8], mem: &mut [u8], store: &mut [u8], glass: &mut [u8]) -> Counts
     ensures { Shows (fed_fresh panel font.now mem.old store.old stream.now)
         (shown_fresh panel font.now mem.old store.old stream.now glass.old) result glass.new }

@@ -44,10 +44,10 @@ pub fn feed(
             state,
         );
         state = f.state;
-        telegrams = telegrams + 1;
-        carried = carried + f.carried;
-        answered = answered + f.answered;
-        at = at + t.after;
+        telegrams += 1;
+        carried += f.carried;
+        answered += f.answered;
+        at += t.after;
     }
     Taken {
         state,
