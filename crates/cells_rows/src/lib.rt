@@ -7,8 +7,7 @@ ghost use Rattle.std.specs.Prelude.{◌≡◌, ◌+◌, ◌*◌, ◌≤◌, ◌<
 ghost use Rattle.laws_laid.specs.Laid.{laid};
 ghost use Rattle.glyphs_columns.specs.Columns.{mixed_by, row_stroke, whole_of};
 
-use glyphs_columns::Lift;
-use paper::Style;
+use glyphs_columns::Inked;
 
 // A column's byte stored in n columns, which lie s apart from address a on. Written out for speed: as a loop digits 4 by 1 take 301
 // instructions a byte and not 268. (cells_tall has `put_both` and `edge` over two bytes at once: one for both takes a trait with a store and its laws,
@@ -59,28 +58,25 @@ fn edge<const MIXING: u8>(
 // right if the glyph has a blank dot. Each is stored n times.
 pub fn row<const MIXING: u8>(
     mem: &mut [u8],
-    cols: &[u8],
-    blanks: usize,
-    p: Lift,
-    style: Style,
+    f: Inked,
     down: u8,
     r: u8,
     from: usize,
     s: usize,
     n: u8,
 )
-    requires blanks_bound { (blanks ≤ 1) × (1 ≤ n) × (n ≤ 4) × (s ≤ 65536) × (length mem.old ≤ 65536) }
-    requires n_in_bounds { from + s * (whole_of cols.now blanks p * n) < length mem.old + s }
-    ensures { mem.new ≡ laid (row_stroke cols.now blanks p style down r n MIXING) s from
-        (whole_of cols.now blanks p * n) mem.old }
+    requires blanks_bound { (f.blanks ≤ 1) × (1 ≤ n) × (n ≤ 4) × (s ≤ 65536) × (length mem.old ≤ 65536) }
+    requires n_in_bounds { from + s * (whole_of f.cols.now f.blanks f.lift * n) < length mem.old + s }
+    ensures { mem.new ≡ laid (row_stroke f.entry.cols.now f.entry.blanks f.entry.lift f.entry.style down r n MIXING) s from
+        (whole_of f.entry.cols.now f.entry.blanks f.entry.lift * n) mem.old }
 {
     let step = s * (n as usize);
-    let blank = glyphs_columns::reversed(style, 0);
-    let mut a = edge::<MIXING>(mem, from, s, n, blank, blanks);
-    for &column in cols {
-        let v = glyphs_columns::tall_byte(down, r, p.placed(column));
-        put::<MIXING>(mem, a, s, n, glyphs_columns::reversed(style, v));
+    let blank = glyphs_columns::reversed(f.style, 0);
+    let mut a = edge::<MIXING>(mem, from, s, n, blank, f.blanks);
+    for &column in f.cols {
+        let v = glyphs_columns::tall_byte(down, r, f.lift.placed(column));
+        put::<MIXING>(mem, a, s, n, glyphs_columns::reversed(f.style, v));
         a += step;
     }
-    edge::<MIXING>(mem, a, s, n, blank, p.down as usize);
+    edge::<MIXING>(mem, a, s, n, blank, f.lift.down as usize);
 }

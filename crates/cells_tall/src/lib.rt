@@ -8,7 +8,7 @@ ghost use Rattle.laws_laid.specs.Laid.{piled, stacked};
 ghost use Rattle.glyphs_columns.specs.Columns.{row_stroke, whole_of};
 ghost use Rattle.cells_tall.specs.Both.{spread_of, reversed_both, both_stroke};
 
-use glyphs_columns::Lift;
+use glyphs_columns::Inked;
 use paper::Style;
 
 // A column with each dot repeated downwards, as one number: its upper half's dots in the low byte, its lower half's in the high byte.
@@ -79,28 +79,19 @@ fn edge(mem: &mut [u8], a: usize, s: usize, n: u8, flip: bool, blank: u16, count
 // A whole cell, in place of what stood there or by exclusive or with it, from address `from` on, its columns s apart: a blank one on the left or
 // none, the glyph's, and a blank one on the right if the glyph has a blank dot. Each is stored n times. Which of the two is a const parameter,
 // so that no loop asks for it.
-pub fn whole<const FLIP: bool>(
-    mem: &mut [u8],
-    cols: &[u8],
-    blanks: usize,
-    p: Lift,
-    style: Style,
-    from: usize,
-    s: usize,
-    n: u8,
-)
-    requires blanks_bound { (blanks ≤ 1) × (1 ≤ n) × (n ≤ 4) × (2 ≤ s) × (s ≤ 65536) × (length mem.old ≤ 65536) }
-    requires n_in_bounds { from + 1 + s * (whole_of cols.now blanks p * n) < length mem.old + s }
-    ensures { mem.new ≡ piled (λ r. row_stroke cols.now blanks p style 2 r n (cond FLIP 3 0)) s from
-        (whole_of cols.now blanks p * n) 2 mem.old }
+pub fn whole<const FLIP: bool>(mem: &mut [u8], f: Inked, from: usize, s: usize, n: u8)
+    requires blanks_bound { (f.blanks ≤ 1) × (1 ≤ n) × (n ≤ 4) × (2 ≤ s) × (s ≤ 65536) × (length mem.old ≤ 65536) }
+    requires n_in_bounds { from + 1 + s * (whole_of f.cols.now f.blanks f.lift * n) < length mem.old + s }
+    ensures { mem.new ≡ piled (λ r. row_stroke f.entry.cols.now f.entry.blanks f.entry.lift f.entry.style 2 r n (cond FLIP 3 0)) s from
+        (whole_of f.entry.cols.now f.entry.blanks f.entry.lift * n) 2 mem.old }
 {
     let step = s * (n as usize);
-    let blank = reversed_both(style, 0);
-    let mut a = edge(mem, from, s, n, FLIP, blank, blanks);
-    for &column in cols {
-        let z = spread(p.placed(column));
-        put_both(mem, a, s, n, FLIP, reversed_both(style, z));
+    let blank = reversed_both(f.style, 0);
+    let mut a = edge(mem, from, s, n, FLIP, blank, f.blanks);
+    for &column in f.cols {
+        let z = spread(f.lift.placed(column));
+        put_both(mem, a, s, n, FLIP, reversed_both(f.style, z));
         a += step;
     }
-    edge(mem, a, s, n, FLIP, blank, p.down as usize);
+    edge(mem, a, s, n, FLIP, blank, f.lift.down as usize);
 }

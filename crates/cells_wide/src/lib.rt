@@ -8,79 +8,67 @@ ghost use Rattle.laws_laid.specs.Laid.{piled};
 ghost use Rattle.glyphs_columns.specs.Columns.{cell_stroke, whole_of};
 ghost use Rattle.cells_cut.specs.Whole.{is_whole};
 
-use glyphs_columns::Lift;
-use paper::Style;
+use glyphs_columns::Inked;
 
 // A whole cell that is not repeated downwards. The mixing is decided once for it: there is a row for each, and the commonest enlargements are
 // written out, so that the loop over columns asks for neither.
-fn flat(mem: &mut [u8], cols: &[u8], blanks: usize, p: Lift, style: Style, a: usize, s: usize)
-    requires blanks_bound { (blanks ≤ 1) × (1 ≤ style.across) × (style.across ≤ 4) × (style.down ≡ 1) × (s ≤ 65536) }
-    requires mem_len_bound { (length mem.old ≤ 65536) × (a + s * (whole_of cols.now blanks p * style.across) < length mem.old + s) }
-    ensures { mem.new ≡ piled (cell_stroke cols.now blanks p style) s a
-        (whole_of cols.now blanks p * style.across) 1 mem.old }
+fn flat(mem: &mut [u8], f: Inked, a: usize, s: usize)
+    requires blanks_bound { (f.blanks ≤ 1) × (1 ≤ f.style.across) × (f.style.across ≤ 4) × (f.style.down ≡ 1) × (s ≤ 65536) }
+    requires mem_len_bound { (length mem.old ≤ 65536) × (a + s * (whole_of f.cols.now f.blanks f.lift * f.style.across) < length mem.old + s) }
+    ensures { mem.new ≡ piled (cell_stroke f.entry.cols.now f.entry.blanks f.entry.lift f.entry.style) s a
+        (whole_of f.entry.cols.now f.entry.blanks f.entry.lift * f.entry.style.across) 1 mem.old }
 {
-    let n = style.across;
-    match style.mixing {
-        0 if n == 4 => cells_rows::row::<0>(mem, cols, blanks, p, style, 1, 0, a, s, 4),
-        0 => cells_rows::row::<0>(mem, cols, blanks, p, style, 1, 0, a, s, n),
-        1 => cells_rows::row::<1>(mem, cols, blanks, p, style, 1, 0, a, s, n),
-        2 => cells_rows::row::<2>(mem, cols, blanks, p, style, 1, 0, a, s, n),
-        _ if n == 2 => cells_rows::row::<3>(mem, cols, blanks, p, style, 1, 0, a, s, 2),
-        _ if n == 4 => cells_rows::row::<3>(mem, cols, blanks, p, style, 1, 0, a, s, 4),
-        _ => cells_rows::row::<3>(mem, cols, blanks, p, style, 1, 0, a, s, n),
+    let n = f.style.across;
+    match f.style.mixing {
+        0 if n == 4 => cells_rows::row::<0>(mem, f, 1, 0, a, s, 4),
+        0 => cells_rows::row::<0>(mem, f, 1, 0, a, s, n),
+        1 => cells_rows::row::<1>(mem, f, 1, 0, a, s, n),
+        2 => cells_rows::row::<2>(mem, f, 1, 0, a, s, n),
+        _ if n == 2 => cells_rows::row::<3>(mem, f, 1, 0, a, s, 2),
+        _ if n == 4 => cells_rows::row::<3>(mem, f, 1, 0, a, s, 4),
+        _ => cells_rows::row::<3>(mem, f, 1, 0, a, s, n),
     }
 }
 
 // A whole cell that is repeated downwards, its mixing decided once: replaced and by exclusive or both rows at a time.
-fn tall(mem: &mut [u8], cols: &[u8], blanks: usize, p: Lift, style: Style, a: usize, s: usize)
-    requires blanks_bound { (blanks ≤ 1) × (1 ≤ style.across) × (style.across ≤ 4) × (style.down ≡ 2) × (2 ≤ s) }
-    requires s_bound { (s ≤ 65536) × (length mem.old ≤ 65536) × (a + 1 + s * (whole_of cols.now blanks p * style.across) < length mem.old + s) }
-    ensures { mem.new ≡ piled (cell_stroke cols.now blanks p style) s a
-        (whole_of cols.now blanks p * style.across) 2 mem.old }
+fn tall(mem: &mut [u8], f: Inked, a: usize, s: usize)
+    requires blanks_bound { (f.blanks ≤ 1) × (1 ≤ f.style.across) × (f.style.across ≤ 4) × (f.style.down ≡ 2) × (2 ≤ s) }
+    requires s_bound { (s ≤ 65536) × (length mem.old ≤ 65536) × (a + 1 + s * (whole_of f.cols.now f.blanks f.lift * f.style.across) < length mem.old + s) }
+    ensures { mem.new ≡ piled (cell_stroke f.entry.cols.now f.entry.blanks f.entry.lift f.entry.style) s a
+        (whole_of f.entry.cols.now f.entry.blanks f.entry.lift * f.entry.style.across) 2 mem.old }
 {
-    let n = style.across;
-    match style.mixing {
-        0 => cells_tall::whole::<false>(mem, cols, blanks, p, style, a, s, n),
+    let n = f.style.across;
+    match f.style.mixing {
+        0 => cells_tall::whole::<false>(mem, f, a, s, n),
         1 => {
-            cells_rows::row::<1>(mem, cols, blanks, p, style, 2, 0, a, s, n);
-            cells_rows::row::<1>(mem, cols, blanks, p, style, 2, 1, a + 1, s, n);
+            cells_rows::row::<1>(mem, f, 2, 0, a, s, n);
+            cells_rows::row::<1>(mem, f, 2, 1, a + 1, s, n);
         }
         2 => {
-            cells_rows::row::<2>(mem, cols, blanks, p, style, 2, 0, a, s, n);
-            cells_rows::row::<2>(mem, cols, blanks, p, style, 2, 1, a + 1, s, n);
+            cells_rows::row::<2>(mem, f, 2, 0, a, s, n);
+            cells_rows::row::<2>(mem, f, 2, 1, a + 1, s, n);
         }
-        _ => cells_tall::whole::<true>(mem, cols, blanks, p, style, a, s, n),
+        _ => cells_tall::whole::<true>(mem, f, a, s, n),
     }
 }
 
 // A cell at address a, or the part of it that lies in a rectangle of so many columns and rows, the columns s apart. The caller knows whether it
 // is whole.
-pub fn draw(
-    mem: &mut [u8],
-    cols: &[u8],
-    blanks: usize,
-    p: Lift,
-    style: Style,
-    a: usize,
-    s: usize,
-    width: usize,
-    height: usize,
-    whole: bool,
-)
-    requires down_bound { (1 ≤ style.across) × (style.down ≤ 2) × (1 ≤ height) × (height ≤ style.down) × (height ≤ s) }
-    requires whole_value { whole ≡ is_whole (length cols.now) blanks p.down style width height }
+pub fn draw(mem: &mut [u8], f: Inked, a: usize, s: usize, width: usize, height: usize, whole: bool)
+    requires down_bound { (1 ≤ f.style.across) × (f.style.down ≤ 2) × (1 ≤ height) × (height ≤ f.style.down) × (height ≤ s) }
+    requires whole_value { whole ≡ is_whole (length f.cols.now) f.blanks f.lift.down f.style width height }
     requires s_bound { (s ≤ 65536) × (width ≤ 65536) × (length mem.old ≤ 65536) × (a + height + s * width ≤ length mem.old + s) }
-    ensures { mem.new ≡ piled (cell_stroke cols.now blanks p style) s a width height mem.old }
+    ensures { mem.new ≡ piled (cell_stroke f.entry.cols.now f.entry.blanks f.entry.lift f.entry.style) s a width height mem.old }
 {
     if whole {
         if height == 1 {
-            flat(mem, cols, blanks, p, style, a, s);
+            flat(mem, f, a, s);
             return;
         }
-        tall(mem, cols, blanks, p, style, a, s);
+        tall(mem, f, a, s);
         return;
     }
     for r in 0..height {
-        cells_cut::cut_row(mem, cols, blanks, p, style, r as u8, a + r, s, width);
+        cells_cut::cut_row(mem, f, r as u8, a + r, s, width);
     }
 }

@@ -20,6 +20,15 @@ pub struct Tall {
     pub lower: u8,
 }
 
+// A glyph as it is drawn: its columns, how many blank ones stand on their left, how its dots are placed, and in which style.
+#[derive(Clone, Copy)]
+pub struct Inked<'a> {
+    pub cols: &'a [u8],
+    pub blanks: usize,
+    pub lift: Lift,
+    pub style: Style,
+}
+
 // How many blank columns stand on the left of a glyph.
 pub fn blanks_left(framed: bool, w: u8) -> usize
     ensures { (result ≡ blanks_left framed w) × (result ≤ w) }

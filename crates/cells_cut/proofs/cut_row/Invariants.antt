@@ -9,4 +9,4 @@ use Rattle.cells_cut.proofs.cut_row.Given as goal
 
 abbrev pub invariant-loop-j : goal.invariant-loop-j
 invariant-loop-j l =
-    (l.j ≤ l.width) × (length l.mem ≡ length l.initial.mem) × (l.a ≡ l.from + l.s * l.j) × (l.mem ≡ laid (cell_stroke l.cols l.blanks l.p l.style l.r) l.s l.from l.j l.initial.mem)
+    (l.j ≤ l.width) × (length l.mem ≡ length l.initial.mem) × (l.a ≡ l.from + l.s * l.j) × (l.mem ≡ laid (cell_stroke l.f.cols.now l.f.blanks l.f.lift l.f.style l.r) l.s l.from l.j l.initial.mem)

@@ -8,4 +8,4 @@ use Rattle.cells_wide.proofs.draw.Given as goal
 
 abbrev pub invariant-loop-r : goal.invariant-loop-r
 invariant-loop-r l =
-    (l.r ≤ l.height) × (length l.mem ≡ length l.initial.mem) × (l.mem ≡ piled (cell_stroke l.cols l.blanks l.p l.style) l.s l.a l.width l.r l.initial.mem)
+    (l.r ≤ l.height) × (length l.mem ≡ length l.initial.mem) × (l.mem ≡ piled (cell_stroke l.f.cols.now l.f.blanks l.f.lift l.f.style) l.s l.a l.width l.r l.initial.mem)
