@@ -10,7 +10,7 @@ ghost use Rattle.glyphs_columns.specs.Columns.{plain_width};
 ghost use Rattle.cells_columns.specs.DrawnAs.{drawn_as};
 ghost use Rattle.cells_columns.specs.Mixed.{mixed_at, mixed_column, unlit, inlaid};
 
-use glyphs_columns::{Inked, Lift, Tall};
+use glyphs_columns::{Inked, Lift, Repeat, Tall};
 use paper::{Module, Rect, Style};
 
 // Mixes a byte into memory.
@@ -127,7 +127,7 @@ pub fn walk_over(g: Module, mem: &mut [u8], framed: bool, cols: &[u8], w: u8, st
     let twice = (style.mixing == 0) & (style.across == 2) & (style.down == 1);
     let whole = cells_cut::is_whole(cols.len(), blanks, lift.down, style, width, height);
     if twice & whole {
-        cells_rows::row::<0>(mem, f, 1, 0, a, s, 2);
+        cells_rows::row::<0>(mem, f, 1, 0, a, Repeat { step: s, times: 2 });
         return;
     }
     if height == 1 {

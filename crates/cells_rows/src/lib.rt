@@ -7,76 +7,60 @@ ghost use Rattle.std.specs.Prelude.{◌≡◌, ◌+◌, ◌*◌, ◌≤◌, ◌<
 ghost use Rattle.laws_laid.specs.Laid.{laid};
 ghost use Rattle.glyphs_columns.specs.Columns.{mixed_by, row_stroke, whole_of};
 
-use glyphs_columns::Inked;
+use glyphs_columns::{Inked, Repeat};
 
-// A column's byte stored in n columns, which lie s apart from address a on. Written out for speed: as a loop digits 4 by 1 take 301
-// instructions a byte and not 268. (cells_tall has `put_both` and `edge` over two bytes at once: one for both takes a trait with a store and its laws,
-// no plainer.)
-fn put<const MIXING: u8>(mem: &mut [u8], a: usize, s: usize, n: u8, v: u8)
-    requires { (1 ≤ n) × (n ≤ 4) × (a + s * n < length mem.old + s) × (s ≤ 65536) × (length mem.old ≤ 65536) }
-    ensures { mem.new ≡ laid (λ j b. mixed_by MIXING v b) s a n mem.old }
+// A column's byte stored from address a on, as often as asked. Written out for speed: as a loop digits 4 by 1 take 301 instructions a byte
+// and not 268. (cells_tall has `put_both` and `edge` over two bytes at once: one for both takes a trait with a store and its laws, no plainer.)
+fn put<const MIXING: u8>(mem: &mut [u8], a: usize, to: Repeat, v: u8)
+    requires { (a + to.step * to.times < length mem.old + to.step) × (length mem.old ≤ 65536) }
+    ensures { mem.new ≡ laid (λ j b. mixed_by MIXING v b) to.step a to.times mem.old }
 {
     mem[a] = glyphs_columns::mixed_by(MIXING, v, mem[a]);
-    if n == 1 {
+    if to.times == 1 {
         return;
     }
-    let b = a + s;
+    let b = a + to.step;
     mem[b] = glyphs_columns::mixed_by(MIXING, v, mem[b]);
-    if n == 2 {
+    if to.times == 2 {
         return;
     }
-    let c = b + s;
+    let c = b + to.step;
     mem[c] = glyphs_columns::mixed_by(MIXING, v, mem[c]);
-    if n == 3 {
+    if to.times == 3 {
         return;
     }
-    let d = c + s;
+    let d = c + to.step;
     mem[d] = glyphs_columns::mixed_by(MIXING, v, mem[d]);
 }
 
 // A blank column so stored, if there is one; gives the address after it.
-fn edge<const MIXING: u8>(
-    mem: &mut [u8],
-    a: usize,
-    s: usize,
-    n: u8,
-    blank: u8,
-    count: usize,
-) -> usize
-    requires count_bound { (count ≤ 1) × (1 ≤ n) × (n ≤ 4) × (s ≤ 65536) × (length mem.old ≤ 65536) }
-    requires n_in_bounds { a + s * (count * n) < length mem.old + s }
-    ensures { (mem.new ≡ laid (λ j b. mixed_by MIXING blank b) s a (count * n) mem.old) × (result ≡ a + s * (count * n)) }
+fn edge<const MIXING: u8>(mem: &mut [u8], a: usize, to: Repeat, blank: u8, count: usize) -> usize
+    requires count_bound { (count ≤ 1) × (length mem.old ≤ 65536) }
+    requires n_in_bounds { a + to.step * (count * to.times) < length mem.old + to.step }
+    ensures { (mem.new ≡ laid (λ j b. mixed_by MIXING blank b) to.step a (count * to.times) mem.old) × (result ≡ a + to.step * (count * to.times)) }
 {
     if count == 0 {
         return a;
     }
-    put::<MIXING>(mem, a, s, n, blank);
-    a + s * (n as usize)
+    put::<MIXING>(mem, a, to, blank);
+    a + to.step * (to.times as usize)
 }
 
-// Row r of a whole cell, from address `from` on, its columns s apart: a blank one on the left or none, the glyph's, and a blank one on the
-// right if the glyph has a blank dot. Each is stored n times.
-pub fn row<const MIXING: u8>(
-    mem: &mut [u8],
-    f: Inked,
-    down: u8,
-    r: u8,
-    from: usize,
-    s: usize,
-    n: u8,
-)
-    requires blanks_bound { (f.blanks ≤ 1) × (1 ≤ n) × (n ≤ 4) × (s ≤ 65536) × (length mem.old ≤ 65536) }
-    requires n_in_bounds { from + s * (whole_of f.cols.now f.blanks f.lift * n) < length mem.old + s }
-    ensures { mem.new ≡ laid (row_stroke f.entry.cols.now f.entry.blanks f.entry.lift f.entry.style down r n MIXING) s from
-        (whole_of f.entry.cols.now f.entry.blanks f.entry.lift * n) mem.old }
+// Row r of a whole cell, from address `from` on: a blank column on the left or none, the glyph's, and a blank one on the right if the glyph
+// has a blank dot. Each is stored as often as asked.
+pub fn row<const MIXING: u8>(mem: &mut [u8], f: Inked, down: u8, r: u8, from: usize, to: Repeat)
+    requires blanks_bound { (f.blanks ≤ 1) × (length mem.old ≤ 65536) }
+    requires n_in_bounds { from + to.step * (whole_of f.cols.now f.blanks f.lift * to.times) < length mem.old + to.step }
+    ensures { mem.new ≡ laid (row_stroke f.entry.cols.now f.entry.blanks f.entry.lift f.entry.style down r to.times MIXING) to.step from
+        (whole_of f.entry.cols.now f.entry.blanks f.entry.lift * to.times) mem.old }
 {
-    let step = s * (n as usize);
+    let step = to.step * (to.times as usize);
     let blank = glyphs_columns::reversed(f.style, 0);
-    let mut a = edge::<MIXING>(mem, from, s, n, blank, f.blanks);
+    let mut a = edge::<MIXING>(mem, from, to, blank, f.blanks);
     for &column in f.cols {
         let v = glyphs_columns::tall_byte(down, r, f.lift.placed(column));
-        put::<MIXING>(mem, a, s, n, glyphs_columns::reversed(f.style, v));
+        put::<MIXING>(mem, a, to, glyphs_columns::reversed(f.style, v));
         a += step;
     }
-    edge::<MIXING>(mem, a, s, n, blank, f.lift.down as usize);
+    edge::<MIXING>(mem, a, to, blank, f.lift.down as usize);
 }

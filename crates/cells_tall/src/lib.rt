@@ -8,7 +8,7 @@ ghost use Rattle.laws_laid.specs.Laid.{piled, stacked};
 ghost use Rattle.glyphs_columns.specs.Columns.{row_stroke, whole_of};
 ghost use Rattle.cells_tall.specs.Both.{spread_of, reversed_both, both_stroke};
 
-use glyphs_columns::Inked;
+use glyphs_columns::{Inked, Repeat};
 use paper::Style;
 
 // A column with each dot repeated downwards, as one number: its upper half's dots in the low byte, its lower half's in the high byte.
@@ -40,58 +40,58 @@ fn store(mem: &mut [u8], a: usize, flip: bool, z: u16)
     mem[a + 1] = (y / 256) as u8;
 }
 
-// A column stored in n columns, which lie s apart from address a on. Written out for speed, as cells_rows::put is.
-fn put_both(mem: &mut [u8], a: usize, s: usize, n: u8, flip: bool, z: u16)
-    requires { (1 ≤ n) × (n ≤ 4) × (a + 1 + s * n < length mem.old + s) × (s ≤ 65536) × (length mem.old ≤ 65536) }
-    ensures { mem.new ≡ stacked (both_stroke flip (λ j. z)) s a n mem.old }
+// A column stored from address a on, as often as asked. Written out for speed, as cells_rows::put is.
+fn put_both(mem: &mut [u8], a: usize, to: Repeat, flip: bool, z: u16)
+    requires { (a + 1 + to.step * to.times < length mem.old + to.step) × (length mem.old ≤ 65536) }
+    ensures { mem.new ≡ stacked (both_stroke flip (λ j. z)) to.step a to.times mem.old }
 {
     store(mem, a, flip, z);
-    if n == 1 {
+    if to.times == 1 {
         return;
     }
-    let b = a + s;
+    let b = a + to.step;
     store(mem, b, flip, z);
-    if n == 2 {
+    if to.times == 2 {
         return;
     }
-    let c = b + s;
+    let c = b + to.step;
     store(mem, c, flip, z);
-    if n == 3 {
+    if to.times == 3 {
         return;
     }
-    let d = c + s;
+    let d = c + to.step;
     store(mem, d, flip, z);
 }
 
 // A blank column so stored, if there is one; gives the address after it.
-fn edge(mem: &mut [u8], a: usize, s: usize, n: u8, flip: bool, blank: u16, count: usize) -> usize
-    requires count_bound { (count ≤ 1) × (1 ≤ n) × (n ≤ 4) × (s ≤ 65536) × (length mem.old ≤ 65536) }
-    requires n_in_bounds { a + 1 + s * (count * n) < length mem.old + s }
-    ensures { (mem.new ≡ stacked (both_stroke flip (λ j. blank)) s a (count * n) mem.old) × (result ≡ a + s * (count * n)) }
+fn edge(mem: &mut [u8], a: usize, to: Repeat, flip: bool, blank: u16, count: usize) -> usize
+    requires count_bound { (count ≤ 1) × (length mem.old ≤ 65536) }
+    requires n_in_bounds { a + 1 + to.step * (count * to.times) < length mem.old + to.step }
+    ensures { (mem.new ≡ stacked (both_stroke flip (λ j. blank)) to.step a (count * to.times) mem.old) × (result ≡ a + to.step * (count * to.times)) }
 {
     if count == 0 {
         return a;
     }
-    put_both(mem, a, s, n, flip, blank);
-    a + s * (n as usize)
+    put_both(mem, a, to, flip, blank);
+    a + to.step * (to.times as usize)
 }
 
-// A whole cell, in place of what stood there or by exclusive or with it, from address `from` on, its columns s apart: a blank one on the left or
-// none, the glyph's, and a blank one on the right if the glyph has a blank dot. Each is stored n times. Which of the two is a const parameter,
-// so that no loop asks for it.
-pub fn whole<const FLIP: bool>(mem: &mut [u8], f: Inked, from: usize, s: usize, n: u8)
-    requires blanks_bound { (f.blanks ≤ 1) × (1 ≤ n) × (n ≤ 4) × (2 ≤ s) × (s ≤ 65536) × (length mem.old ≤ 65536) }
-    requires n_in_bounds { from + 1 + s * (whole_of f.cols.now f.blanks f.lift * n) < length mem.old + s }
-    ensures { mem.new ≡ piled (λ r. row_stroke f.entry.cols.now f.entry.blanks f.entry.lift f.entry.style 2 r n (cond FLIP 3 0)) s from
-        (whole_of f.entry.cols.now f.entry.blanks f.entry.lift * n) 2 mem.old }
+// A whole cell, in place of what stood there or by exclusive or with it, from address `from` on: a blank column on the left or none, the
+// glyph's, and a blank one on the right if the glyph has a blank dot. Each is stored as often as asked. Which of the two is a const parameter, so
+// that no loop asks for it.
+pub fn whole<const FLIP: bool>(mem: &mut [u8], f: Inked, from: usize, to: Repeat)
+    requires blanks_bound { (f.blanks ≤ 1) × (2 ≤ to.step) × (length mem.old ≤ 65536) }
+    requires n_in_bounds { from + 1 + to.step * (whole_of f.cols.now f.blanks f.lift * to.times) < length mem.old + to.step }
+    ensures { mem.new ≡ piled (λ r. row_stroke f.entry.cols.now f.entry.blanks f.entry.lift f.entry.style 2 r to.times (cond FLIP 3 0)) to.step from
+        (whole_of f.entry.cols.now f.entry.blanks f.entry.lift * to.times) 2 mem.old }
 {
-    let step = s * (n as usize);
+    let step = to.step * (to.times as usize);
     let blank = reversed_both(f.style, 0);
-    let mut a = edge(mem, from, s, n, FLIP, blank, f.blanks);
+    let mut a = edge(mem, from, to, FLIP, blank, f.blanks);
     for &column in f.cols {
         let z = spread(f.lift.placed(column));
-        put_both(mem, a, s, n, FLIP, reversed_both(f.style, z));
+        put_both(mem, a, to, FLIP, reversed_both(f.style, z));
         a += step;
     }
-    edge(mem, a, s, n, FLIP, blank, f.lift.down as usize);
+    edge(mem, a, to, FLIP, blank, f.lift.down as usize);
 }

@@ -8,7 +8,7 @@ ghost use Rattle.laws_laid.specs.Laid.{piled};
 ghost use Rattle.glyphs_columns.specs.Columns.{cell_stroke, whole_of};
 ghost use Rattle.cells_cut.specs.Whole.{is_whole};
 
-use glyphs_columns::Inked;
+use glyphs_columns::{Inked, Repeat};
 
 // A whole cell that is not repeated downwards. The mixing is decided once for it: there is a row for each, and the commonest enlargements are
 // written out, so that the loop over columns asks for neither.
@@ -19,14 +19,17 @@ fn flat(mem: &mut [u8], f: Inked, a: usize, s: usize)
         (whole_of f.entry.cols.now f.entry.blanks f.entry.lift * f.entry.style.across) 1 mem.old }
 {
     let n = f.style.across;
+    let asked = Repeat { step: s, times: n };
+    let twice = Repeat { step: s, times: 2 };
+    let four = Repeat { step: s, times: 4 };
     match f.style.mixing {
-        0 if n == 4 => cells_rows::row::<0>(mem, f, 1, 0, a, s, 4),
-        0 => cells_rows::row::<0>(mem, f, 1, 0, a, s, n),
-        1 => cells_rows::row::<1>(mem, f, 1, 0, a, s, n),
-        2 => cells_rows::row::<2>(mem, f, 1, 0, a, s, n),
-        _ if n == 2 => cells_rows::row::<3>(mem, f, 1, 0, a, s, 2),
-        _ if n == 4 => cells_rows::row::<3>(mem, f, 1, 0, a, s, 4),
-        _ => cells_rows::row::<3>(mem, f, 1, 0, a, s, n),
+        0 if n == 4 => cells_rows::row::<0>(mem, f, 1, 0, a, four),
+        0 => cells_rows::row::<0>(mem, f, 1, 0, a, asked),
+        1 => cells_rows::row::<1>(mem, f, 1, 0, a, asked),
+        2 => cells_rows::row::<2>(mem, f, 1, 0, a, asked),
+        _ if n == 2 => cells_rows::row::<3>(mem, f, 1, 0, a, twice),
+        _ if n == 4 => cells_rows::row::<3>(mem, f, 1, 0, a, four),
+        _ => cells_rows::row::<3>(mem, f, 1, 0, a, asked),
     }
 }
 
@@ -37,18 +40,21 @@ fn tall(mem: &mut [u8], f: Inked, a: usize, s: usize)
     ensures { mem.new ≡ piled (cell_stroke f.entry.cols.now f.entry.blanks f.entry.lift f.entry.style) s a
         (whole_of f.entry.cols.now f.entry.blanks f.entry.lift * f.entry.style.across) 2 mem.old }
 {
-    let n = f.style.across;
+    let asked = Repeat {
+        step: s,
+        times: f.style.across,
+    };
     match f.style.mixing {
-        0 => cells_tall::whole::<false>(mem, f, a, s, n),
+        0 => cells_tall::whole::<false>(mem, f, a, asked),
         1 => {
-            cells_rows::row::<1>(mem, f, 2, 0, a, s, n);
-            cells_rows::row::<1>(mem, f, 2, 1, a + 1, s, n);
+            cells_rows::row::<1>(mem, f, 2, 0, a, asked);
+            cells_rows::row::<1>(mem, f, 2, 1, a + 1, asked);
         }
         2 => {
-            cells_rows::row::<2>(mem, f, 2, 0, a, s, n);
-            cells_rows::row::<2>(mem, f, 2, 1, a + 1, s, n);
+            cells_rows::row::<2>(mem, f, 2, 0, a, asked);
+            cells_rows::row::<2>(mem, f, 2, 1, a + 1, asked);
         }
-        _ => cells_tall::whole::<true>(mem, f, a, s, n),
+        _ => cells_tall::whole::<true>(mem, f, a, asked),
     }
 }
 

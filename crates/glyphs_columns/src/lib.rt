@@ -29,6 +29,16 @@ pub struct Inked<'a> {
     pub style: Style,
 }
 
+// How often a column is stored, and how far apart the columns lie: once to four times, and no further than a memory is long.
+#[derive(Clone, Copy)]
+pub struct Repeat {
+    pub step: usize,
+    pub times: u8,
+    pub ghost some: { 1 ≤ times },
+    pub ghost few: { times ≤ 4 },
+    pub ghost near: { step ≤ 65536 },
+}
+
 // How many blank columns stand on the left of a glyph.
 pub fn blanks_left(framed: bool, w: u8) -> usize
     ensures { (result ≡ blanks_left framed w) × (result ≤ w) }

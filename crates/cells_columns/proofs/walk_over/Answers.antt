@@ -34,7 +34,7 @@ row-requires c =
     let columns : a.r.width ≡ whole_of a.cols.now c.blanks_left-blanks.result c.placing-lift.result * 2 = rw (← twice.1) whole.3 in
     let ask = asks a.g a.r a.mem.now c.requires.within.0 c.requires.within.1 c.if-width-eq0.false c.if-height-eq0.false c.at-a.result a.r.height c.at-a.ensures.0 refl in
     let reach = rw columns at ask.3 in
-    record { blanks_bound = (whole.0, omega arith, omega arith, ask.0, ask.2); n_in_bounds = omega (arith, reach, whole.2, twice.2) }
+    record { blanks_bound = (whole.0, ask.2); n_in_bounds = omega (arith, reach, whole.2, twice.2) }
 
 pub returns-then-twice-whole : goal.returns-then-twice-whole
 returns-then-twice-whole c =

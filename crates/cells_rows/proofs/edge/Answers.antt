@@ -11,22 +11,21 @@ use Rattle.cells_rows.proofs.edge.Goals as goal
 pub returns-then-count-eq0 : goal.returns-then-count-eq0
 returns-then-count-eq0 g c =
     let a = c.args in
-    let none : a.count * a.n ≡ 0 = times_none a.count a.n (omega arith) in
-    (turned_none (byte_turn (λ j b. mixed_by g.row.MIXING a.blank b) a.s a.a) (a.count * a.n) a.mem.now none, rw none (omega arith))
+    let none : a.count * a.to.times ≡ 0 = times_none a.count a.to.times (omega arith) in
+    (turned_none (byte_turn (λ j b. mixed_by g.row.MIXING a.blank b) a.to.step a.a) (a.count * a.to.times) a.mem.now none, rw none (omega arith))
 
 pub put-requires : goal.put-requires
 put-requires g c =
-    let one = times_one c.args.count c.args.n (omega arith) in
-    let q = c.requires.count_bound in
-    (q.1, q.2, rw one c.requires.n_in_bounds, q.3, q.4)
+    let one = times_one c.args.count c.args.to.times (omega arith) in
+    (rw one c.requires.n_in_bounds, c.requires.count_bound.1)
 
 pub overflow_mul-result : goal.overflow_mul-result
 overflow_mul-result g c =
-    omega (arith, mul-le-mul_left c.args.s c.requires.count_bound.2)
+    omega (arith, mul-le-mul_left c.args.to.step c.args.to.few)
 
 pub overflow_add-result : goal.overflow_add-result
 overflow_add-result g c =
-    omega (arith, mul-le-mul_left c.args.s c.requires.count_bound.2, c.requires.n_in_bounds)
+    omega (arith, mul-le-mul_left c.args.to.step c.args.to.few, c.requires.n_in_bounds)
 
 pub shape_of-mem : goal.shape_of-mem
 shape_of-mem g c =
@@ -35,7 +34,7 @@ shape_of-mem g c =
 pub returns : goal.returns
 returns g c =
     let a = c.args in
-    let one : a.n ≡ a.count * a.n = times_one a.count a.n (omega arith) in (
-      turned_to_lem (byte_turn (λ j b. mixed_by g.row.MIXING a.blank b) a.s a.a) a.n (a.count * a.n) a.mem.now _ c.put.ensures one,
-      ap (λ (t : ℕ). a.a + a.s * t) one,
+    let one : a.to.times ≡ a.count * a.to.times = times_one a.count a.to.times (omega arith) in (
+      turned_to_lem (byte_turn (λ j b. mixed_by g.row.MIXING a.blank b) a.to.step a.a) a.to.times (a.count * a.to.times) a.mem.now _ c.put.ensures one,
+      ap (λ (t : ℕ). a.a + a.to.step * t) one,
     )

@@ -10,6 +10,6 @@ use Rattle.cells_rows.proofs.row.Given as goal
 
 abbrev pub invariant-loop-column : goal.invariant-loop-column
 invariant-loop-column g l =
-    (l.column-index ≤ length l.f.cols.now) × (length l.mem ≡ length l.initial.mem) × (l.a ≡ l.from + l.s * ((l.f.blanks + l.column-index) * l.n))
-    × ((m : List ℕ) → l.initial.mem ≡ laid (row_stroke l.f.cols.now l.f.blanks l.f.lift l.f.style l.down l.r l.n g.row.MIXING) l.s l.from (l.f.blanks * l.n) m
-    → l.mem ≡ laid (row_stroke l.f.cols.now l.f.blanks l.f.lift l.f.style l.down l.r l.n g.row.MIXING) l.s l.from ((l.f.blanks + l.column-index) * l.n) m)
+    (l.column-index ≤ length l.f.cols.now) × (length l.mem ≡ length l.initial.mem) × (l.a ≡ l.from + l.to.step * ((l.f.blanks + l.column-index) * l.to.times))
+    × ((m : List ℕ) → l.initial.mem ≡ laid (row_stroke l.f.cols.now l.f.blanks l.f.lift l.f.style l.down l.r l.to.times g.row.MIXING) l.to.step l.from (l.f.blanks * l.to.times) m
+    → l.mem ≡ laid (row_stroke l.f.cols.now l.f.blanks l.f.lift l.f.style l.down l.r l.to.times g.row.MIXING) l.to.step l.from ((l.f.blanks + l.column-index) * l.to.times) m)

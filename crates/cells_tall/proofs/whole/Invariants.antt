@@ -7,4 +7,4 @@ use Rattle.cells_tall.proofs.whole.Given as goal
 
 abbrev pub invariant-loop-column : goal.invariant-loop-column
 invariant-loop-column g l =
-    Stored l.f.cols.now l.f.blanks l.f.lift l.f.style (FLIP-type (number g.row.FLIP)) l.n l.s l.from l.initial.mem l.mem l.a l.column-index
+    Stored l.f.cols.now l.f.blanks l.f.lift l.f.style (FLIP-type (number g.row.FLIP)) l.to.times l.to.step l.from l.initial.mem l.mem l.a l.column-index
