@@ -127,12 +127,12 @@ pub fn walk_over(g: Module, mem: &mut [u8], framed: bool, cols: &[u8], w: u8, st
     let twice = (style.mixing == 0) & (style.across == 2) & (style.down == 1);
     let whole = cells_cut::is_whole(cols.len(), blanks, lift.down, style, width, height);
     if twice & whole {
-        cells_rows::row::<0>(mem, f, 1, 0, a, Repeat { step: s, times: 2 });
+        cells_rows::row::<0>(mem, &f, 1, 0, a, Repeat { step: s, times: 2 });
         return;
     }
     if height == 1 {
-        cells_wide::draw(mem, f, a, s, width, 1, whole);
+        cells_wide::draw(mem, &f, a, s, width, 1, whole);
         return;
     }
-    cells_wide::draw(mem, f, a, s, width, height, whole);
+    cells_wide::draw(mem, &f, a, s, width, height, whole);
 }

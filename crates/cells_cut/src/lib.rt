@@ -40,23 +40,23 @@ pub fn is_whole(
 }
 
 // Row r of a cell of which only `width` columns are there: each is made by itself.
-pub fn cut_row(mem: &mut [u8], f: Inked, r: u8, from: usize, s: usize, width: usize)
-    requires down_bound { (1 ≤ f.style.across) × (s ≤ 65536) × (length mem.old ≤ 65536) }
+pub fn cut_row(mem: &mut [u8], f: &Inked, r: u8, from: usize, s: usize, width: usize)
+    requires down_bound { (1 ≤ f.now.style.across) × (s ≤ 65536) × (length mem.old ≤ 65536) }
     requires width_in_bounds { from + s * width < length mem.old + s }
-    ensures { mem.new ≡ laid (cell_stroke f.entry.cols.now f.entry.blanks f.entry.lift f.entry.style r) s from width mem.old }
+    ensures { mem.new ≡ laid (cell_stroke f.now.cols.now f.now.blanks f.now.lift f.now.style r) s from width mem.old }
 {
-    let n = f.style.across as usize;
+    let Inked {
+        cols,
+        blanks,
+        lift,
+        style,
+    } = *f;
+    let n = style.across as usize;
     let mut a = from;
     for j in 0..width {
-        let v = f
-            .lift
-            .placed(glyphs_columns::fetched(f.cols, f.blanks, j / n));
-        let b = glyphs_columns::tall_byte(f.style.down, r, v);
-        mem[a] = glyphs_columns::mixed_by(
-            f.style.mixing,
-            glyphs_columns::reversed(f.style, b),
-            mem[a],
-        );
+        let v = lift.placed(glyphs_columns::fetched(cols, blanks, j / n));
+        let b = glyphs_columns::tall_byte(style.down, r, v);
+        mem[a] = glyphs_columns::mixed_by(style.mixing, glyphs_columns::reversed(style, b), mem[a]);
         a += s;
     }
 }

@@ -48,19 +48,25 @@ fn edge<const MIXING: u8>(mem: &mut [u8], a: usize, to: Repeat, blank: u8, count
 
 // Row r of a whole cell, from address `from` on: a blank column on the left or none, the glyph's, and a blank one on the right if the glyph
 // has a blank dot. Each is stored as often as asked.
-pub fn row<const MIXING: u8>(mem: &mut [u8], f: Inked, down: u8, r: u8, from: usize, to: Repeat)
-    requires blanks_bound { (f.blanks ≤ 1) × (length mem.old ≤ 65536) }
-    requires n_in_bounds { from + to.step * (whole_of f.cols.now f.blanks f.lift * to.times) < length mem.old + to.step }
-    ensures { mem.new ≡ laid (row_stroke f.entry.cols.now f.entry.blanks f.entry.lift f.entry.style down r to.times MIXING) to.step from
-        (whole_of f.entry.cols.now f.entry.blanks f.entry.lift * to.times) mem.old }
+pub fn row<const MIXING: u8>(mem: &mut [u8], f: &Inked, down: u8, r: u8, from: usize, to: Repeat)
+    requires blanks_bound { (f.now.blanks ≤ 1) × (length mem.old ≤ 65536) }
+    requires n_in_bounds { from + to.step * (whole_of f.now.cols.now f.now.blanks f.now.lift * to.times) < length mem.old + to.step }
+    ensures { mem.new ≡ laid (row_stroke f.now.cols.now f.now.blanks f.now.lift f.now.style down r to.times MIXING) to.step from
+        (whole_of f.now.cols.now f.now.blanks f.now.lift * to.times) mem.old }
 {
+    let Inked {
+        cols,
+        blanks,
+        lift,
+        style,
+    } = *f;
     let step = to.step * (to.times as usize);
-    let blank = glyphs_columns::reversed(f.style, 0);
-    let mut a = edge::<MIXING>(mem, from, to, blank, f.blanks);
-    for &column in f.cols {
-        let v = glyphs_columns::tall_byte(down, r, f.lift.placed(column));
-        put::<MIXING>(mem, a, to, glyphs_columns::reversed(f.style, v));
+    let blank = glyphs_columns::reversed(style, 0);
+    let mut a = edge::<MIXING>(mem, from, to, blank, blanks);
+    for &column in cols {
+        let v = glyphs_columns::tall_byte(down, r, lift.placed(column));
+        put::<MIXING>(mem, a, to, glyphs_columns::reversed(style, v));
         a += step;
     }
-    edge::<MIXING>(mem, a, to, blank, f.lift.down as usize);
+    edge::<MIXING>(mem, a, to, blank, lift.down as usize);
 }

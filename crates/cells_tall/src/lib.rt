@@ -79,19 +79,25 @@ fn edge(mem: &mut [u8], a: usize, to: Repeat, flip: bool, blank: u16, count: usi
 // A whole cell, in place of what stood there or by exclusive or with it, from address `from` on: a blank column on the left or none, the
 // glyph's, and a blank one on the right if the glyph has a blank dot. Each is stored as often as asked. Which of the two is a const parameter, so
 // that no loop asks for it.
-pub fn whole<const FLIP: bool>(mem: &mut [u8], f: Inked, from: usize, to: Repeat)
-    requires blanks_bound { (f.blanks ≤ 1) × (2 ≤ to.step) × (length mem.old ≤ 65536) }
-    requires n_in_bounds { from + 1 + to.step * (whole_of f.cols.now f.blanks f.lift * to.times) < length mem.old + to.step }
-    ensures { mem.new ≡ piled (λ r. row_stroke f.entry.cols.now f.entry.blanks f.entry.lift f.entry.style 2 r to.times (cond FLIP 3 0)) to.step from
-        (whole_of f.entry.cols.now f.entry.blanks f.entry.lift * to.times) 2 mem.old }
+pub fn whole<const FLIP: bool>(mem: &mut [u8], f: &Inked, from: usize, to: Repeat)
+    requires blanks_bound { (f.now.blanks ≤ 1) × (2 ≤ to.step) × (length mem.old ≤ 65536) }
+    requires n_in_bounds { from + 1 + to.step * (whole_of f.now.cols.now f.now.blanks f.now.lift * to.times) < length mem.old + to.step }
+    ensures { mem.new ≡ piled (λ r. row_stroke f.now.cols.now f.now.blanks f.now.lift f.now.style 2 r to.times (cond FLIP 3 0)) to.step from
+        (whole_of f.now.cols.now f.now.blanks f.now.lift * to.times) 2 mem.old }
 {
+    let Inked {
+        cols,
+        blanks,
+        lift,
+        style,
+    } = *f;
     let step = to.step * (to.times as usize);
-    let blank = reversed_both(f.style, 0);
-    let mut a = edge(mem, from, to, FLIP, blank, f.blanks);
-    for &column in f.cols {
-        let z = spread(f.lift.placed(column));
-        put_both(mem, a, to, FLIP, reversed_both(f.style, z));
+    let blank = reversed_both(style, 0);
+    let mut a = edge(mem, from, to, FLIP, blank, blanks);
+    for &column in cols {
+        let z = spread(lift.placed(column));
+        put_both(mem, a, to, FLIP, reversed_both(style, z));
         a += step;
     }
-    edge(mem, a, to, FLIP, blank, f.lift.down as usize);
+    edge(mem, a, to, FLIP, blank, lift.down as usize);
 }

@@ -38,6 +38,13 @@ module _ (cols : List ℕ) (blanks : ℕ) (p : Lift) (y : Style) (d n k whole s 
   one_row m m₁ e =
       e ∙ row_as 0 a m ∙ ap (λ (t : ℕ). laid (cell_stroke cols blanks p y 0) s t (whole * y.across) m) (sym (add-zero a))
 
+  -- and two
+  pub two_rows : (m m₁ : List ℕ) → m₁ ≡ piled (λ r. row_stroke cols blanks p y d r n k) s a (whole * n) 2 m
+      → m₁ ≡ piled (cell_stroke cols blanks p y) s a (whole * y.across) 2 m
+  two_rows m m₁ e =
+      e ∙ row_as 1 (a + 1) (laid (row_stroke cols blanks p y d 0 n k) s (a + 0) (whole * n) m)
+      ∙ ap (laid (cell_stroke cols blanks p y 1) s (a + 1) (whole * y.across)) (row_as 0 (a + 0) m)
+
 -- so many rows of so many columns
 pub as_high : (f : ℕ → Stroke) (s a w w' h h' : ℕ) (m m₁ : List ℕ) → w ≡ w' → h ≡ h' → m₁ ≡ piled f s a w h m → m₁ ≡ piled f s a w' h' m
 as_high f s a w w' h h' m m₁ p q e = e ∙ ap₂ (λ (x y : ℕ). piled f s a x y m) p q

@@ -12,11 +12,11 @@ use glyphs_columns::{Inked, Repeat};
 
 // A whole cell that is not repeated downwards. The mixing is decided once for it: there is a row for each, and the commonest enlargements are
 // written out, so that the loop over columns asks for neither.
-fn flat(mem: &mut [u8], f: Inked, a: usize, s: usize)
-    requires blanks_bound { (f.blanks ≤ 1) × (1 ≤ f.style.across) × (f.style.across ≤ 4) × (f.style.down ≡ 1) × (s ≤ 65536) }
-    requires mem_len_bound { (length mem.old ≤ 65536) × (a + s * (whole_of f.cols.now f.blanks f.lift * f.style.across) < length mem.old + s) }
-    ensures { mem.new ≡ piled (cell_stroke f.entry.cols.now f.entry.blanks f.entry.lift f.entry.style) s a
-        (whole_of f.entry.cols.now f.entry.blanks f.entry.lift * f.entry.style.across) 1 mem.old }
+fn flat(mem: &mut [u8], f: &Inked, a: usize, s: usize)
+    requires blanks_bound { (f.now.blanks ≤ 1) × (1 ≤ f.now.style.across) × (f.now.style.across ≤ 4) × (f.now.style.down ≡ 1) × (s ≤ 65536) }
+    requires mem_len_bound { (length mem.old ≤ 65536) × (a + s * (whole_of f.now.cols.now f.now.blanks f.now.lift * f.now.style.across) < length mem.old + s) }
+    ensures { mem.new ≡ piled (cell_stroke f.now.cols.now f.now.blanks f.now.lift f.now.style) s a
+        (whole_of f.now.cols.now f.now.blanks f.now.lift * f.now.style.across) 1 mem.old }
 {
     let n = f.style.across;
     let asked = Repeat { step: s, times: n };
@@ -34,11 +34,11 @@ fn flat(mem: &mut [u8], f: Inked, a: usize, s: usize)
 }
 
 // A whole cell that is repeated downwards, its mixing decided once: replaced and by exclusive or both rows at a time.
-fn tall(mem: &mut [u8], f: Inked, a: usize, s: usize)
-    requires blanks_bound { (f.blanks ≤ 1) × (1 ≤ f.style.across) × (f.style.across ≤ 4) × (f.style.down ≡ 2) × (2 ≤ s) }
-    requires s_bound { (s ≤ 65536) × (length mem.old ≤ 65536) × (a + 1 + s * (whole_of f.cols.now f.blanks f.lift * f.style.across) < length mem.old + s) }
-    ensures { mem.new ≡ piled (cell_stroke f.entry.cols.now f.entry.blanks f.entry.lift f.entry.style) s a
-        (whole_of f.entry.cols.now f.entry.blanks f.entry.lift * f.entry.style.across) 2 mem.old }
+fn tall(mem: &mut [u8], f: &Inked, a: usize, s: usize)
+    requires blanks_bound { (f.now.blanks ≤ 1) × (1 ≤ f.now.style.across) × (f.now.style.across ≤ 4) × (f.now.style.down ≡ 2) × (2 ≤ s) }
+    requires s_bound { (s ≤ 65536) × (length mem.old ≤ 65536) × (a + 1 + s * (whole_of f.now.cols.now f.now.blanks f.now.lift * f.now.style.across) < length mem.old + s) }
+    ensures { mem.new ≡ piled (cell_stroke f.now.cols.now f.now.blanks f.now.lift f.now.style) s a
+        (whole_of f.now.cols.now f.now.blanks f.now.lift * f.now.style.across) 2 mem.old }
 {
     let asked = Repeat {
         step: s,
@@ -60,11 +60,11 @@ fn tall(mem: &mut [u8], f: Inked, a: usize, s: usize)
 
 // A cell at address a, or the part of it that lies in a rectangle of so many columns and rows, the columns s apart. The caller knows whether it
 // is whole.
-pub fn draw(mem: &mut [u8], f: Inked, a: usize, s: usize, width: usize, height: usize, whole: bool)
-    requires down_bound { (1 ≤ f.style.across) × (f.style.down ≤ 2) × (1 ≤ height) × (height ≤ f.style.down) × (height ≤ s) }
-    requires whole_value { whole ≡ is_whole (length f.cols.now) f.blanks f.lift.down f.style width height }
+pub fn draw(mem: &mut [u8], f: &Inked, a: usize, s: usize, width: usize, height: usize, whole: bool)
+    requires down_bound { (1 ≤ f.now.style.across) × (f.now.style.down ≤ 2) × (1 ≤ height) × (height ≤ f.now.style.down) × (height ≤ s) }
+    requires whole_value { whole ≡ is_whole (length f.now.cols.now) f.now.blanks f.now.lift.down f.now.style width height }
     requires s_bound { (s ≤ 65536) × (width ≤ 65536) × (length mem.old ≤ 65536) × (a + height + s * width ≤ length mem.old + s) }
-    ensures { mem.new ≡ piled (cell_stroke f.entry.cols.now f.entry.blanks f.entry.lift f.entry.style) s a width height mem.old }
+    ensures { mem.new ≡ piled (cell_stroke f.now.cols.now f.now.blanks f.now.lift f.now.style) s a width height mem.old }
 {
     if whole {
         if height == 1 {

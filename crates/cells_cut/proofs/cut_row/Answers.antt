@@ -41,13 +41,13 @@ loop-j-preserved c =
       omega arith,
       length-set head.mem head.a _ ∙ head.invariant.1,
       omega (arith, head.invariant.2),
-      laid_more (cell_stroke a.f.cols.now a.f.blanks a.f.lift a.f.style a.r) a.s a.from head.j (head.j + 1) head.a _ a.mem.now head.mem head.invariant.3 head.invariant.2
+      laid_more (cell_stroke a.f.now.cols.now a.f.now.blanks a.f.now.lift a.f.now.style a.r) a.s a.from head.j (head.j + 1) head.a _ a.mem.now head.mem head.invariant.3 head.invariant.2
           (c.mixed_by.ensures
-          ∙ ap (λ (v : ℕ). mixed_by a.f.style.mixing v (get_or head.mem head.a 0))
+          ∙ ap (λ (v : ℕ). mixed_by a.f.now.style.mixing v (get_or head.mem head.a 0))
           (c.reversed.ensures
-          ∙ ap (reversed_byte a.f.style)
+          ∙ ap (reversed_byte a.f.now.style)
           (c.tall_byte-b.ensures
-          ∙ ap (tall_byte a.f.style.down a.r) (c.placed-v.ensures ∙ ap (lifted_of a.f.lift) c.fetched.ensures))))
+          ∙ ap (tall_byte a.f.now.style.down a.r) (c.placed-v.ensures ∙ ap (lifted_of a.f.now.lift) c.fetched.ensures))))
           (omega arith),
     )
 
@@ -55,4 +55,4 @@ pub returns : goal.returns
 returns c =
     let head = c.loop-j in
     let a = c.args in
-    turned_to_lem (byte_turn (cell_stroke a.f.cols.now a.f.blanks a.f.lift a.f.style a.r) a.s a.from) head.j a.width a.mem.now head.mem head.invariant.3 (omega arith)
+    turned_to_lem (byte_turn (cell_stroke a.f.now.cols.now a.f.now.blanks a.f.now.lift a.f.now.style a.r) a.s a.from) head.j a.width a.mem.now head.mem head.invariant.3 (omega arith)

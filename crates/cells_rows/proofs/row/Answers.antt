@@ -22,30 +22,30 @@ overflow_mul-step g c =
 pub edge-a-requires : goal.edge-a-requires
 edge-a-requires g c =
     let a = c.args in
-    let reach = columns_reach a.from a.to.step a.to.times 0 a.f.blanks (whole_of a.f.cols.now a.f.blanks a.f.lift) _ (omega arith) c.requires.n_in_bounds in
+    let reach = columns_reach a.from a.to.step a.to.times 0 a.f.now.blanks (whole_of a.f.now.cols.now a.f.now.blanks a.f.now.lift) _ (omega arith) c.requires.n_in_bounds in
     record { count_bound = c.requires.blanks_bound; n_in_bounds = omega (arith, reach) }
 
 pub loop-column-init : goal.loop-column-init
 loop-column-init g c =
     let a = c.args in
-    let none : a.f.blanks ≡ a.f.blanks + 0 = omega arith in (
+    let none : a.f.now.blanks ≡ a.f.now.blanks + 0 = omega arith in (
       omega arith,
       refl,
       c.edge-a.ensures.1 ∙ ap (λ (k : ℕ). a.from + a.to.step * (k * a.to.times)) none,
-      λ m e. turned_to_lem (byte_turn (row_stroke a.f.cols.now a.f.blanks a.f.lift a.f.style a.down a.r a.to.times g.row.MIXING) a.to.step a.from) _ _ m _ e
+      λ m e. turned_to_lem (byte_turn (row_stroke a.f.now.cols.now a.f.now.blanks a.f.now.lift a.f.now.style a.down a.r a.to.times g.row.MIXING) a.to.step a.from) _ _ m _ e
           (ap (λ (k : ℕ). k * a.to.times) none),
     )
 
 pub put-requires : goal.put-requires
 put-requires g c =
     let head = c.loop-column in
-    let reach = reaches _ _ _ _ _ _ (c.args.f.blanks + head.column-index) c.requires.n_in_bounds (omega arith) head.invariant.2 in
+    let reach = reaches _ _ _ _ _ _ (c.args.f.now.blanks + head.column-index) c.requires.n_in_bounds (omega arith) head.invariant.2 in
     (omega (arith, reach, head.invariant.1, c.edge-a.auto.mem), omega arith)
 
 pub overflow_add-a : goal.overflow_add-a
 overflow_add-a g c =
     let head = c.loop-column in
-    omega (arith, reaches _ _ _ _ _ _ (c.args.f.blanks + head.column-index) c.requires.n_in_bounds (omega arith) head.invariant.2)
+    omega (arith, reaches _ _ _ _ _ _ (c.args.f.now.blanks + head.column-index) c.requires.n_in_bounds (omega arith) head.invariant.2)
 
 pub loop-column-preserved : goal.loop-column-preserved
 loop-column-preserved g c =
@@ -54,10 +54,10 @@ loop-column-preserved g c =
       omega arith,
       omega (arith, c.put.auto.mem),
       omega (arith, head.invariant.2),
-      λ m e. row_glyph a.f.cols.now a.f.blanks a.f.lift a.f.style a.down a.r a.to.times g.row.MIXING a.to.step a.from (omega arith) m head.column-index head.a _ head.mem _
+      λ m e. row_glyph a.f.now.cols.now a.f.now.blanks a.f.now.lift a.f.now.style a.down a.r a.to.times g.row.MIXING a.to.step a.from (omega arith) m head.column-index head.a _ head.mem _
           (omega arith) (head.invariant.3 m e) head.invariant.2
           (c.reversed.ensures
-          ∙ ap (reversed_byte a.f.style) (c.tall_byte-v.ensures ∙ ap (tall_byte a.down a.r) c.placed.ensures))
+          ∙ ap (reversed_byte a.f.now.style) (c.tall_byte-v.ensures ∙ ap (tall_byte a.down a.r) c.placed.ensures))
           c.put.ensures,
     )
 
@@ -65,9 +65,9 @@ pub edge-requires : goal.edge-requires
 edge-requires g c =
     let head = c.loop-column in
     let a = c.args in
-    let reach = columns_reach a.from a.to.step a.to.times (a.f.blanks + head.column-index) a.f.lift.down (whole_of a.f.cols.now a.f.blanks a.f.lift) _ (omega arith) c.requires.n_in_bounds in
+    let reach = columns_reach a.from a.to.step a.to.times (a.f.now.blanks + head.column-index) a.f.now.lift.down (whole_of a.f.now.cols.now a.f.now.blanks a.f.now.lift) _ (omega arith) c.requires.n_in_bounds in
     let same = c.edge-a.auto.mem in
-    record { count_bound = (a.f.lift.one, omega (arith, head.invariant.1, same)); n_in_bounds = omega (arith, reach, head.invariant.1, head.invariant.2, same) }
+    record { count_bound = (a.f.now.lift.one, omega (arith, head.invariant.1, same)); n_in_bounds = omega (arith, reach, head.invariant.1, head.invariant.2, same) }
 
 pub shape_of-mem : goal.shape_of-mem
 shape_of-mem g c =
@@ -78,10 +78,10 @@ returns g c =
     let head = c.loop-column in
     let a = c.args in
     let blank = c.reversed-blank.ensures in
-    let all : a.f.blanks + head.column-index + a.f.lift.down ≡ whole_of a.f.cols.now a.f.blanks a.f.lift = omega arith in
-    turned_to_lem (byte_turn (row_stroke a.f.cols.now a.f.blanks a.f.lift a.f.style a.down a.r a.to.times g.row.MIXING) a.to.step a.from) _ _ a.mem.now _
-    (row_right a.f.cols.now a.f.blanks a.f.lift a.f.style a.down a.r a.to.times g.row.MIXING a.to.step a.from (omega arith) a.mem.now head.column-index a.f.lift.down head.a _
+    let all : a.f.now.blanks + head.column-index + a.f.now.lift.down ≡ whole_of a.f.now.cols.now a.f.now.blanks a.f.now.lift = omega arith in
+    turned_to_lem (byte_turn (row_stroke a.f.now.cols.now a.f.now.blanks a.f.now.lift a.f.now.style a.down a.r a.to.times g.row.MIXING) a.to.step a.from) _ _ a.mem.now _
+    (row_right a.f.now.cols.now a.f.now.blanks a.f.now.lift a.f.now.style a.down a.r a.to.times g.row.MIXING a.to.step a.from (omega arith) a.mem.now head.column-index a.f.now.lift.down head.a _
     head.mem _ (omega arith)
     (head.invariant.3 a.mem.now
-    (row_left a.f.cols.now a.f.blanks a.f.lift a.f.style a.down a.r a.to.times g.row.MIXING a.to.step a.from (omega arith) a.mem.now _ _ blank c.edge-a.ensures.0))
+    (row_left a.f.now.cols.now a.f.now.blanks a.f.now.lift a.f.now.style a.down a.r a.to.times g.row.MIXING a.to.step a.from (omega arith) a.mem.now _ _ blank c.edge-a.ensures.0))
     head.invariant.2 blank c.edge.ensures.0) (ap (λ (k : ℕ). k * a.to.times) all)

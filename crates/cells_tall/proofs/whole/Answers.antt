@@ -11,45 +11,45 @@ pub edge-a-requires : goal.edge-a-requires
 edge-a-requires g c =
     let a = c.args in
     let q = c.requires.blanks_bound in
-    record { count_bound = (q.0, q.2); n_in_bounds = reach_left a.f.cols.now a.f.blanks a.f.lift a.f.style true a.to.times a.to.step a.from _ q.2 c.requires.n_in_bounds }
+    record { count_bound = (q.0, q.2); n_in_bounds = reach_left a.f.now.cols.now a.f.now.blanks a.f.now.lift a.f.now.style true a.to.times a.to.step a.from _ q.2 c.requires.n_in_bounds }
 
 pub loop-column-init : goal.loop-column-init
 loop-column-init g c =
     let a = c.args in
-    stored_none a.f.cols.now a.f.blanks a.f.lift a.f.style _ a.to.times a.to.step a.from _ _ c.edge-a.ensures.1
+    stored_none a.f.now.cols.now a.f.now.blanks a.f.now.lift a.f.now.style _ a.to.times a.to.step a.from _ _ c.edge-a.ensures.1
 
 pub put_both-requires : goal.put_both-requires
 put_both-requires g c =
     let head = c.loop-column in
     let a = c.args in
-    let reach = reach_glyph a.f.cols.now a.f.blanks a.f.lift a.f.style _ a.to.times a.to.step a.from _ c.requires.blanks_bound.2 c.requires.n_in_bounds head.column-index head.a _ head.mem head.invariant c.edge-a.auto.mem c.loop-column-test.true in
+    let reach = reach_glyph a.f.now.cols.now a.f.now.blanks a.f.now.lift a.f.now.style _ a.to.times a.to.step a.from _ c.requires.blanks_bound.2 c.requires.n_in_bounds head.column-index head.a _ head.mem head.invariant c.edge-a.auto.mem c.loop-column-test.true in
     reach
 
 pub overflow_add-a : goal.overflow_add-a
 overflow_add-a g c =
     let head = c.loop-column in
     let a = c.args in
-    omega (arith, reach_glyph a.f.cols.now a.f.blanks a.f.lift a.f.style _ a.to.times a.to.step a.from _ c.requires.blanks_bound.2 c.requires.n_in_bounds head.column-index head.a _ head.mem head.invariant c.edge-a.auto.mem c.loop-column-test.true)
+    omega (arith, reach_glyph a.f.now.cols.now a.f.now.blanks a.f.now.lift a.f.now.style _ a.to.times a.to.step a.from _ c.requires.blanks_bound.2 c.requires.n_in_bounds head.column-index head.a _ head.mem head.invariant c.edge-a.auto.mem c.loop-column-test.true)
 
 pub loop-column-preserved : goal.loop-column-preserved
 loop-column-preserved g c =
     let head = c.loop-column in
     let a = c.args in
-    stored_more a.f.cols.now a.f.blanks a.f.lift a.f.style _ a.to.times a.to.step a.from head.column-index head.a _ _ head.mem _ a.to.some head.invariant c.loop-column-test.true c.put_both.auto.mem
+    stored_more a.f.now.cols.now a.f.now.blanks a.f.now.lift a.f.now.style _ a.to.times a.to.step a.from head.column-index head.a _ _ head.mem _ a.to.some head.invariant c.loop-column-test.true c.put_both.auto.mem
     (c.reversed_both.ensures
-    ∙ ap (reversed_both a.f.style) (c.spread-z.ensures ∙ ap spread_of c.placed.ensures))
+    ∙ ap (reversed_both a.f.now.style) (c.spread-z.ensures ∙ ap spread_of c.placed.ensures))
     c.put_both.ensures
 
 pub edge-requires : goal.edge-requires
 edge-requires g c =
     let head = c.loop-column in
     let a = c.args in
-    let reach = reach_right a.f.cols.now a.f.blanks a.f.lift a.f.style _ a.to.times a.to.step a.from _ c.requires.blanks_bound.2 c.requires.n_in_bounds head.column-index head.a _ head.mem head.invariant c.edge-a.auto.mem in
-    record { count_bound = (a.f.lift.one, reach.1); n_in_bounds = reach.0 }
+    let reach = reach_right a.f.now.cols.now a.f.now.blanks a.f.now.lift a.f.now.style _ a.to.times a.to.step a.from _ c.requires.blanks_bound.2 c.requires.n_in_bounds head.column-index head.a _ head.mem head.invariant c.edge-a.auto.mem in
+    record { count_bound = (a.f.now.lift.one, reach.1); n_in_bounds = reach.0 }
 
 pub returns : goal.returns
 returns g c =
     let head = c.loop-column in
     let a = c.args in
-    stored-all a.f.cols.now a.f.blanks a.f.lift a.f.style _ a.to.times a.to.step a.from head.column-index head.a _ a.mem.now _ head.mem _ a.to.some c.requires.blanks_bound.1
+    stored-all a.f.now.cols.now a.f.now.blanks a.f.now.lift a.f.now.style _ a.to.times a.to.step a.from head.column-index head.a _ a.mem.now _ head.mem _ a.to.some c.requires.blanks_bound.1
     c.reversed_both-blank.ensures c.edge-a.ensures.0 head.invariant c.loop-column-test.false c.edge.ensures.0
