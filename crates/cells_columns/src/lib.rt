@@ -116,20 +116,27 @@ pub fn walk_over(g: Module, mem: &mut [u8], framed: bool, cols: &[u8], w: u8, st
     let top = r.top;
     let blanks = glyphs_columns::blanks_left(framed, w);
     let lift = Lift::placing(framed, top);
+    let a = dots::at(g, r.left, top);
+    let s = g.rows;
+    let twice = (style.mixing == 0) & (style.across == 2) & (style.down == 1);
+    let whole = cells_cut::is_whole(cols.len(), blanks, lift.down, style, width, height);
+    if twice & whole {
+        // made on each path by itself: made before the test digits 2 by 1 take 188 instructions for 179
+        let f = Inked {
+            cols,
+            blanks,
+            lift,
+            style,
+        };
+        cells_rows::row::<0>(mem, &f, 1, 0, a, Repeat { step: s, times: 2 });
+        return;
+    }
     let f = Inked {
         cols,
         blanks,
         lift,
         style,
     };
-    let a = dots::at(g, r.left, top);
-    let s = g.rows;
-    let twice = (style.mixing == 0) & (style.across == 2) & (style.down == 1);
-    let whole = cells_cut::is_whole(cols.len(), blanks, lift.down, style, width, height);
-    if twice & whole {
-        cells_rows::row::<0>(mem, &f, 1, 0, a, Repeat { step: s, times: 2 });
-        return;
-    }
     if height == 1 {
         cells_wide::draw(mem, &f, a, s, width, 1, whole);
         return;

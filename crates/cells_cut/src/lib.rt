@@ -12,6 +12,7 @@ use glyphs_columns::Inked;
 use paper::Style;
 
 // Whether all of a cell is there, `glyph` columns after at most one blank and before at most one, and no column repeated more than four times.
+// (Numbers, and not an `Inked`: a slice is shorter than `glyph` may be, so it would ask more of callers.)
 pub fn is_whole(
     glyph: usize,
     blanks: usize,

@@ -21,6 +21,7 @@ pub struct Tall {
 }
 
 // A glyph as it is drawn: its columns, how many blank ones stand on their left, how its dots are placed, and in which style.
+// (No bound on the blanks is the type's: `cells_cut::is_whole` tests it.)
 #[derive(Clone, Copy)]
 pub struct Inked<'a> {
     pub cols: &'a [u8],
@@ -29,11 +30,12 @@ pub struct Inked<'a> {
     pub style: Style,
 }
 
-// How often a column is stored, and how far apart the columns lie: once to four times, and no further than a memory is long.
+// How often a column is stored, and how far apart the columns lie in memory.
 #[derive(Clone, Copy)]
 pub struct Repeat {
     pub step: usize,
     pub times: u8,
+    // once at least, four times at most, and no further apart than a memory is long
     pub ghost some: { 1 ≤ times },
     pub ghost few: { times ≤ 4 },
     pub ghost near: { step ≤ 65536 },

@@ -1,7 +1,7 @@
 -- `cells_cut::cut_row` meets its contract. The loop's invariant: the first j columns are laid, and the next goes to address a.
 -- Assumes nothing.
 use mathlib.Core.Path.{◌≡◌}
-use Prim.Native.Nat.{◌+◌, ◌*◌, ◌-◌, ◌≤◌}
+use Prim.Native.Nat.{◌+◌, ◌*◌, ◌≤◌}
 use lib.ListN.{length}
 use Rattle.laws_laid.specs.Laid.{laid}
 use Rattle.glyphs_columns.specs.Columns.{cell_stroke}
