@@ -10,7 +10,7 @@ ghost use Rattle.glyphs_columns.specs.Columns.{plain_width};
 ghost use Rattle.cells_columns.specs.DrawnAs.{drawn_as};
 ghost use Rattle.cells_columns.specs.Mixed.{mixed_at, mixed_column, unlit, inlaid};
 
-use glyphs_columns::{Inked, Lift, Repeat, Tall};
+use glyphs_columns::{Lift, Repeat, Stencil, Tall};
 use paper::{Module, Rect, Style};
 
 // Mixes a byte into memory.
@@ -122,7 +122,7 @@ pub fn walk_over(g: Module, mem: &mut [u8], framed: bool, cols: &[u8], w: u8, st
     let whole = cells_cut::is_whole(cols.len(), blanks, lift.down, style, width, height);
     if twice & whole {
         // made on each path by itself: made before the test digits 2 by 1 take 188 instructions for 179
-        let f = Inked {
+        let f = Stencil {
             cols,
             blanks,
             lift,
@@ -131,7 +131,7 @@ pub fn walk_over(g: Module, mem: &mut [u8], framed: bool, cols: &[u8], w: u8, st
         cells_rows::row::<0>(mem, &f, 1, 0, a, Repeat { step: s, times: 2 });
         return;
     }
-    let f = Inked {
+    let f = Stencil {
         cols,
         blanks,
         lift,

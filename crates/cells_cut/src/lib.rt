@@ -8,11 +8,11 @@ ghost use Rattle.laws_laid.specs.Laid.{laid};
 ghost use Rattle.glyphs_columns.specs.Columns.{cell_stroke};
 ghost use Rattle.cells_cut.specs.Whole.{is_whole};
 
-use glyphs_columns::Inked;
+use glyphs_columns::Stencil;
 use paper::Style;
 
 // Whether all of a cell is there, `glyph` columns after at most one blank and before at most one, and no column repeated more than four times.
-// (Numbers, and not an `Inked`: a slice is shorter than `glyph` may be, so it would ask more of callers.)
+// (Numbers and no `Stencil`: a slice is shorter than `glyph` may be, so it would ask more of callers.)
 pub fn is_whole(
     glyph: usize,
     blanks: usize,
@@ -41,12 +41,12 @@ pub fn is_whole(
 }
 
 // Row r of a cell of which only `width` columns are there: each is made by itself.
-pub fn cut_row(mem: &mut [u8], f: &Inked, r: u8, from: usize, s: usize, width: usize)
+pub fn cut_row(mem: &mut [u8], f: &Stencil, r: u8, from: usize, s: usize, width: usize)
     requires down_bound { (1 ≤ f.now.style.across) × (s ≤ 65536) × (length mem.old ≤ 65536) }
     requires width_in_bounds { from + s * width < length mem.old + s }
     ensures { mem.new ≡ laid (cell_stroke f.now.cols.now f.now.blanks f.now.lift f.now.style r) s from width mem.old }
 {
-    let Inked {
+    let Stencil {
         cols,
         blanks,
         lift,

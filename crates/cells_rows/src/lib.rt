@@ -7,7 +7,7 @@ ghost use Rattle.std.specs.Prelude.{◌≡◌, ◌+◌, ◌*◌, ◌≤◌, ◌<
 ghost use Rattle.laws_laid.specs.Laid.{laid};
 ghost use Rattle.glyphs_columns.specs.Columns.{mixed_by, row_stroke, whole_of};
 
-use glyphs_columns::{Inked, Repeat};
+use glyphs_columns::{Repeat, Stencil};
 
 // A column's byte stored from address a on, as often as asked. Written out for speed: as a loop digits 4 by 1 take 301 instructions a byte
 // and not 268. (cells_tall has `put_both` and `edge` over two bytes at once: one for both takes a trait with a store and its laws, no plainer.)
@@ -48,13 +48,13 @@ fn edge<const MIXING: u8>(mem: &mut [u8], a: usize, to: Repeat, blank: u8, count
 
 // Row r of a whole cell, from address `from` on: a blank column on the left or none, the glyph's, and a blank one on the right if the glyph
 // has a blank dot. Each is stored as often as asked.
-pub fn row<const MIXING: u8>(mem: &mut [u8], f: &Inked, down: u8, r: u8, from: usize, to: Repeat)
+pub fn row<const MIXING: u8>(mem: &mut [u8], f: &Stencil, down: u8, r: u8, from: usize, to: Repeat)
     requires blanks_bound { (f.now.blanks ≤ 1) × (length mem.old ≤ 65536) }
     requires n_in_bounds { from + to.step * (whole_of f.now.cols.now f.now.blanks f.now.lift * to.times) < length mem.old + to.step }
     ensures { mem.new ≡ laid (row_stroke f.now.cols.now f.now.blanks f.now.lift f.now.style down r to.times MIXING) to.step from
         (whole_of f.now.cols.now f.now.blanks f.now.lift * to.times) mem.old }
 {
-    let Inked {
+    let Stencil {
         cols,
         blanks,
         lift,

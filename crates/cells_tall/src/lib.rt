@@ -8,7 +8,7 @@ ghost use Rattle.laws_laid.specs.Laid.{piled, stacked};
 ghost use Rattle.glyphs_columns.specs.Columns.{row_stroke, whole_of};
 ghost use Rattle.cells_tall.specs.Both.{spread_of, reversed_both, both_stroke};
 
-use glyphs_columns::{Inked, Repeat};
+use glyphs_columns::{Repeat, Stencil};
 use paper::Style;
 
 // A column with each dot repeated downwards, as one number: its upper half's dots in the low byte, its lower half's in the high byte.
@@ -79,13 +79,13 @@ fn edge(mem: &mut [u8], a: usize, to: Repeat, flip: bool, blank: u16, count: usi
 // A whole cell, in place of what stood there or by exclusive or with it, from address `from` on: a blank column on the left or none, the
 // glyph's, and a blank one on the right if the glyph has a blank dot. Each is stored as often as asked. Which of the two is a const parameter, so
 // that no loop asks for it.
-pub fn whole<const FLIP: bool>(mem: &mut [u8], f: &Inked, from: usize, to: Repeat)
+pub fn whole<const FLIP: bool>(mem: &mut [u8], f: &Stencil, from: usize, to: Repeat)
     requires blanks_bound { (f.now.blanks ≤ 1) × (2 ≤ to.step) × (length mem.old ≤ 65536) }
     requires n_in_bounds { from + 1 + to.step * (whole_of f.now.cols.now f.now.blanks f.now.lift * to.times) < length mem.old + to.step }
     ensures { mem.new ≡ piled (λ r. row_stroke f.now.cols.now f.now.blanks f.now.lift f.now.style 2 r to.times (cond FLIP 3 0)) to.step from
         (whole_of f.now.cols.now f.now.blanks f.now.lift * to.times) 2 mem.old }
 {
-    let Inked {
+    let Stencil {
         cols,
         blanks,
         lift,

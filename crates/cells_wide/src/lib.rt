@@ -8,11 +8,11 @@ ghost use Rattle.laws_laid.specs.Laid.{piled};
 ghost use Rattle.glyphs_columns.specs.Columns.{cell_stroke, whole_of};
 ghost use Rattle.cells_cut.specs.Whole.{is_whole};
 
-use glyphs_columns::{Inked, Repeat};
+use glyphs_columns::{Repeat, Stencil};
 
 // A whole cell that is not repeated downwards. The mixing is decided once for it: there is a row for each, and the commonest enlargements are
 // written out, so that the loop over columns asks for neither.
-fn flat(mem: &mut [u8], f: &Inked, a: usize, s: usize)
+fn flat(mem: &mut [u8], f: &Stencil, a: usize, s: usize)
     requires blanks_bound { (f.now.blanks ≤ 1) × (1 ≤ f.now.style.across) × (f.now.style.across ≤ 4) × (f.now.style.down ≡ 1) × (s ≤ 65536) }
     requires mem_len_bound { (length mem.old ≤ 65536) × (a + s * (whole_of f.now.cols.now f.now.blanks f.now.lift * f.now.style.across) < length mem.old + s) }
     ensures { mem.new ≡ piled (cell_stroke f.now.cols.now f.now.blanks f.now.lift f.now.style) s a
@@ -34,7 +34,7 @@ fn flat(mem: &mut [u8], f: &Inked, a: usize, s: usize)
 }
 
 // A whole cell that is repeated downwards, its mixing decided once: replaced and by exclusive or both rows at a time.
-fn tall(mem: &mut [u8], f: &Inked, a: usize, s: usize)
+fn tall(mem: &mut [u8], f: &Stencil, a: usize, s: usize)
     requires blanks_bound { (f.now.blanks ≤ 1) × (1 ≤ f.now.style.across) × (f.now.style.across ≤ 4) × (f.now.style.down ≡ 2) × (2 ≤ s) }
     requires s_bound { (s ≤ 65536) × (length mem.old ≤ 65536) × (a + 1 + s * (whole_of f.now.cols.now f.now.blanks f.now.lift * f.now.style.across) < length mem.old + s) }
     ensures { mem.new ≡ piled (cell_stroke f.now.cols.now f.now.blanks f.now.lift f.now.style) s a
@@ -60,7 +60,15 @@ fn tall(mem: &mut [u8], f: &Inked, a: usize, s: usize)
 
 // A cell at address a, or the part of it that lies in a rectangle of so many columns and rows, the columns s apart. The caller knows whether it
 // is whole.
-pub fn draw(mem: &mut [u8], f: &Inked, a: usize, s: usize, width: usize, height: usize, whole: bool)
+pub fn draw(
+    mem: &mut [u8],
+    f: &Stencil,
+    a: usize,
+    s: usize,
+    width: usize,
+    height: usize,
+    whole: bool,
+)
     requires down_bound { (1 ≤ f.now.style.across) × (f.now.style.down ≤ 2) × (1 ≤ height) × (height ≤ f.now.style.down) × (height ≤ s) }
     requires whole_value { whole ≡ is_whole (length f.now.cols.now) f.now.blanks f.now.lift.down f.now.style width height }
     requires s_bound { (s ≤ 65536) × (width ≤ 65536) × (length mem.old ≤ 65536) × (a + height + s * width ≤ length mem.old + s) }

@@ -23,7 +23,7 @@ pub struct Tall {
 // A glyph as it is drawn: its columns, how many blank ones stand on their left, how its dots are placed, and in which style.
 // (No bound on the blanks is the type's: `cells_cut::is_whole` tests it.)
 #[derive(Clone, Copy)]
-pub struct Inked<'a> {
+pub struct Stencil<'a> {
     pub cols: &'a [u8],
     pub blanks: usize,
     pub lift: Lift,
