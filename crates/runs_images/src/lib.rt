@@ -33,14 +33,17 @@ pub fn image_bytes(
     let v = images_places::from_cursor(p.view);
     let mut x = column;
     let mut y = row;
-    for i in from..piece.len() {
+    let mut i = from;
+    // by place: as a `for` over places a byte takes 3.5 ns and not 2.8
+    while i < piece.len() {
         images_places::store(g, mem, v, style, x, y, piece[i]);
         let next = images_places::place_after(height, x, y);
         x = next.column;
         y = next.row;
+        i += 1;
         if x == width {
-            return images_marks::filled_to(p, height, column, row, x, y, i + 1);
+            return images_marks::filled_to(p, height, column, row, x, y, i);
         }
     }
-    images_marks::filled_to(p, height, column, row, x, y, piece.len())
+    images_marks::filled_to(p, height, column, row, x, y, i)
 }

@@ -1,5 +1,5 @@
 -- `runs_images::image_bytes` meets its contract. The loop's invariant: what is left gives what the whole run gives. Assumes nothing.
-use mathlib.Core.Path.{◌≡◌, ◌∙◌}
+use mathlib.Core.Path.{◌∙◌}
 use Prim.Native.Nat.{◌+◌, ◌<◌, ◌≤◌}
 use native.Mathlib.Omega.{arith}
 use lib.ListN.{length}
@@ -78,6 +78,4 @@ shape_of-mem c =
 
 pub returns : goal.returns
 returns c =
-    let end : c.loop-i.i ≡ length c.args.piece.now = omega arith in
-    rw c.filled_to-2.ensures
-    (filling_end _ _ _ _ _ _ _ _ _ _ _ _ _ _ (rw end at c.loop-i.invariant) c.requires.column_lt_width.3 (omega arith))
+    rw c.filled_to-2.ensures (filling_end _ _ _ _ _ _ _ _ _ _ _ _ _ _ c.loop-i.invariant c.requires.column_lt_width.3 (omega arith))
