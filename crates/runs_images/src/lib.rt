@@ -34,7 +34,7 @@ pub fn image_bytes(
     let mut x = column;
     let mut y = row;
     let mut i = from;
-    // by place: as a `for` over places a byte takes 3.5 ns and not 2.8
+    // by place: as a `for` over places a byte takes 3.5 ns and not 3.0
     while i < piece.len() {
         images_places::store(g, mem, v, style, x, y, piece[i]);
         let next = images_places::place_after(height, x, y);
