@@ -8,6 +8,6 @@ pub returns-then-row-height : goal.returns-then-row-height
 returns-then-row-height c =
     let a = c.args in rw (lt-ltb (a.row + 1) a.height (omega arith))
 
-pub returns-else-row-height : goal.returns-else-row-height
-returns-else-row-height c =
+pub returns : goal.returns
+returns c =
     let a = c.args in rw (le-ltb (a.row + 1) a.height (omega arith))
