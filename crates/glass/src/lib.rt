@@ -41,13 +41,17 @@ pub fn copy_row(g: Module, mem: &[u8], glass: &mut [u8], y: usize, p: Span) -> u
     moved
 }
 
-// Copies the bytes from one address up to another. The number of bytes copied.
+// Copies the bytes from one address up to another, and counts each that it copies; the compiler makes a copy of whole words of a loop as plain
+// as this. The number of bytes copied.
 fn copy_bytes(mem: &[u8], glass: &mut [u8], from: usize, end: usize) -> usize
     requires { (from ≤ end) × (end ≤ length mem.now) × (end ≤ length glass.old) }
     ensures { (glass.new ≡ copied_from mem.now from (end - from) glass.old) × (result ≡ end - from) }
 {
-    glass[from..end].copy_from_slice(&mem[from..end]);
-    end - from
+    let mut moved = 0;
+    for a in from..end {
+        moved += copy_byte(mem, glass, a);
+    }
+    moved
 }
 
 // Copies a span's visible columns of both rows to the glass: their bytes stand side by side. The number of bytes copied.

@@ -1,2 +1,0 @@
--- A law that belongs to no one function: of a run of bytes written over a list.
-mod Runs
