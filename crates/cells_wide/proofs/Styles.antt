@@ -38,12 +38,18 @@ module _ (cols : List ℕ) (blanks : ℕ) (p : Lift) (y : Style) (d n k whole s 
   one_row m m₁ e =
       e ∙ row_as 0 a m ∙ ap (λ (t : ℕ). laid (cell_stroke cols blanks p y 0) s t (whole * y.across) m) (sym (add-zero a))
 
-  -- and two
-  pub two_rows : (m m₁ : List ℕ) → m₁ ≡ piled (λ r. row_stroke cols blanks p y d r n k) s a (whole * n) 2 m
+  -- both
+  pub both_rows : (m m₁ : List ℕ) → m₁ ≡ piled (λ r. row_stroke cols blanks p y d r n k) s a (whole * n) 2 m
       → m₁ ≡ piled (cell_stroke cols blanks p y) s a (whole * y.across) 2 m
-  two_rows m m₁ e =
+  both_rows m m₁ e =
       e ∙ row_as 1 (a + 1) (laid (row_stroke cols blanks p y d 0 n k) s (a + 0) (whole * n) m)
       ∙ ap (laid (cell_stroke cols blanks p y 1) s (a + 1) (whole * y.across)) (row_as 0 (a + 0) m)
+
+  -- the one below it after it
+  pub two_rows : (m m₁ m₂ : List ℕ) → m₁ ≡ laid (row_stroke cols blanks p y d 0 n k) s a (whole * n) m
+      → m₂ ≡ laid (row_stroke cols blanks p y d 1 n k) s (a + 1) (whole * n) m₁
+      → m₂ ≡ piled (cell_stroke cols blanks p y) s a (whole * y.across) 2 m
+  two_rows m m₁ m₂ e q = q ∙ ap (λ (l : List ℕ). laid (row_stroke cols blanks p y d 1 n k) s (a + 1) (whole * n) l) (one_row m m₁ e) ∙ row_as 1 (a + 1) _
 
 -- so many rows of so many columns
 pub as_high : (f : ℕ → Stroke) (s a w w' h h' : ℕ) (m m₁ : List ℕ) → w ≡ w' → h ≡ h' → m₁ ≡ piled f s a w h m → m₁ ≡ piled f s a w' h' m

@@ -8,7 +8,8 @@ ghost use Rattle.laws_laid.specs.Laid.{piled};
 ghost use Rattle.glyphs_columns.specs.Columns.{cell_stroke, whole_of};
 ghost use Rattle.cells_cut.specs.Whole.{is_whole};
 
-use glyphs_columns::{Repeat, Stencil};
+use glyphs_columns::{Lift, Repeat, Stencil};
+use paper::Style;
 
 // A whole cell that is not repeated downwards. The mixing is decided once for it: there is a row for each, and the commonest enlargements are
 // written out, so that the loop over columns asks for neither.
@@ -59,30 +60,39 @@ fn tall(mem: &mut [u8], f: &Stencil, a: usize, s: usize)
 }
 
 // A cell at address a, or the part of it that lies in a rectangle of so many columns and rows, the columns s apart. The caller knows whether it
-// is whole.
+// is whole. (Numbers and no `Stencil`: a caller that has them in registers need not store them.)
 pub fn draw(
     mem: &mut [u8],
-    f: &Stencil,
+    cols: &[u8],
+    blanks: usize,
+    lift: Lift,
+    style: Style,
     a: usize,
     s: usize,
     width: usize,
     height: usize,
     whole: bool,
 )
-    requires down_bound { (1 ≤ f.now.style.across) × (f.now.style.down ≤ 2) × (1 ≤ height) × (height ≤ f.now.style.down) × (height ≤ s) }
-    requires whole_value { whole ≡ is_whole (length f.now.cols.now) f.now.blanks f.now.lift.down f.now.style width height }
+    requires down_bound { (1 ≤ style.across) × (style.down ≤ 2) × (1 ≤ height) × (height ≤ style.down) × (height ≤ s) }
+    requires whole_value { whole ≡ is_whole (length cols.now) blanks lift.down style width height }
     requires s_bound { (s ≤ 65536) × (width ≤ 65536) × (length mem.old ≤ 65536) × (a + height + s * width ≤ length mem.old + s) }
-    ensures { mem.new ≡ piled (cell_stroke f.now.cols.now f.now.blanks f.now.lift f.now.style) s a width height mem.old }
+    ensures { mem.new ≡ piled (cell_stroke cols.now blanks lift style) s a width height mem.old }
 {
+    let f = Stencil {
+        cols,
+        blanks,
+        lift,
+        style,
+    };
     if whole {
         if height == 1 {
-            flat(mem, f, a, s);
+            flat(mem, &f, a, s);
             return;
         }
-        tall(mem, f, a, s);
+        tall(mem, &f, a, s);
         return;
     }
     for r in 0..height {
-        cells_cut::cut_row(mem, f, r as u8, a + r, s, width);
+        cells_cut::cut_row(mem, &f, r as u8, a + r, s, width);
     }
 }

@@ -10,7 +10,7 @@ use Rattle.cells_wide.proofs.draw.Goals as goal
 pub flat-requires : goal.flat-requires
 flat-requires c =
     let a = c.args in
-    let all = whole_facts (length a.f.now.cols.now) a.f.now.blanks a.f.now.lift.down a.f.now.style a.width a.height (sym c.requires.whole_value ∙ c.if-whole.true) in
+    let all = whole_facts (length a.cols.now) a.blanks a.lift.down a.style a.width a.height (sym c.requires.whole_value ∙ c.if-whole.true) in
     let reach = rw all.3 at c.requires.s_bound.3 in
     let q = c.requires.down_bound in
     let r = c.requires.s_bound in
@@ -19,14 +19,14 @@ flat-requires c =
 pub returns-then-height-eq1 : goal.returns-then-height-eq1
 returns-then-height-eq1 c =
     let a = c.args in
-    let all = whole_facts (length a.f.now.cols.now) a.f.now.blanks a.f.now.lift.down a.f.now.style a.width a.height (sym c.requires.whole_value ∙ c.if-whole.true) in
-    as_high (cell_stroke a.f.now.cols.now a.f.now.blanks a.f.now.lift a.f.now.style) a.s a.a _ a.width 1 a.height a.mem.now _ (sym all.3)
+    let all = whole_facts (length a.cols.now) a.blanks a.lift.down a.style a.width a.height (sym c.requires.whole_value ∙ c.if-whole.true) in
+    as_high (cell_stroke a.cols.now a.blanks a.lift a.style) a.s a.a _ a.width 1 a.height a.mem.now _ (sym all.3)
     (omega (arith, all.2)) c.flat.ensures
 
 pub tall-requires : goal.tall-requires
 tall-requires c =
     let a = c.args in
-    let all = whole_facts (length a.f.now.cols.now) a.f.now.blanks a.f.now.lift.down a.f.now.style a.width a.height (sym c.requires.whole_value ∙ c.if-whole.true) in
+    let all = whole_facts (length a.cols.now) a.blanks a.lift.down a.style a.width a.height (sym c.requires.whole_value ∙ c.if-whole.true) in
     let reach = rw all.3 at c.requires.s_bound.3 in
     let q = c.requires.down_bound in
     let r = c.requires.s_bound in
@@ -35,8 +35,8 @@ tall-requires c =
 pub returns-then-whole : goal.returns-then-whole
 returns-then-whole c =
     let a = c.args in
-    let all = whole_facts (length a.f.now.cols.now) a.f.now.blanks a.f.now.lift.down a.f.now.style a.width a.height (sym c.requires.whole_value ∙ c.if-whole.true) in
-    as_high (cell_stroke a.f.now.cols.now a.f.now.blanks a.f.now.lift a.f.now.style) a.s a.a _ a.width 2 a.height a.mem.now _ (sym all.3)
+    let all = whole_facts (length a.cols.now) a.blanks a.lift.down a.style a.width a.height (sym c.requires.whole_value ∙ c.if-whole.true) in
+    as_high (cell_stroke a.cols.now a.blanks a.lift a.style) a.s a.a _ a.width 2 a.height a.mem.now _ (sym all.3)
     (omega (arith, all.2)) c.tall.ensures
 
 pub loop-r-init : goal.loop-r-init
@@ -54,11 +54,11 @@ loop-r-preserved c =
     let a = c.args in (
       omega arith,
       omega (arith, head.invariant.1, c.cut_row.auto.mem),
-      as_more (cell_stroke a.f.now.cols.now a.f.now.blanks a.f.now.lift a.f.now.style) a.s a.a a.width head.r a.mem.now head.mem _ head.invariant.2 c.cut_row.ensures,
+      as_more (cell_stroke a.cols.now a.blanks a.lift a.style) a.s a.a a.width head.r a.mem.now head.mem _ head.invariant.2 c.cut_row.ensures,
     )
 
 pub returns : goal.returns
 returns c =
     let head = c.loop-r in
     let a = c.args in
-    as_high (cell_stroke a.f.now.cols.now a.f.now.blanks a.f.now.lift a.f.now.style) a.s a.a a.width a.width head.r a.height a.mem.now head.mem refl (omega arith) head.invariant.2
+    as_high (cell_stroke a.cols.now a.blanks a.lift a.style) a.s a.a a.width a.width head.r a.height a.mem.now head.mem refl (omega arith) head.invariant.2
