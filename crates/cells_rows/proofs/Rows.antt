@@ -4,12 +4,13 @@ use mathlib.Core.Bool.{Bool, true, false, cond}
 use mathlib.Core.List.{List}
 use Prim.Native.Nat.{ℕ, ◌+◌, ◌*◌, ◌/◌, ◌%◌, ◌<◌, ◌≤◌}
 use native.Mathlib.Omega.{arith}
+use borrow.Author.Tests.{ne_eqb}
 use lib.Dec.{eqb}
-use lib.ListN.{length, get_or}
+use lib.ListN.{length, get_or, set}
 use Rattle.paper.specs.declared.Style.{Style}
 use Rattle.laws_bytes.specs.Bytes.{double, tall_byte, reversed_byte}
 use Rattle.laws_laid.specs.Laid.{byte_turn, laid}
-use Rattle.laws_laid.proofs.Laid.{turned_none, turned_to_lem, columns_more}
+use Rattle.laws_laid.proofs.Laid.{turned_none, turned_to_lem, turned_same, columns_more}
 use Rattle.glyphs_columns.specs.declared.lift.Lift.{Lift}
 use Rattle.glyphs_columns.specs.Columns.{lifted_of, fetched_of, row_byte, mixed_by, row_stroke}
 use Rattle.glyphs_columns.proofs.Beside.{lifted_none, fetched_left, fetched_glyph, fetched_right}
@@ -73,3 +74,13 @@ module _ (cols : List ℕ) (blanks : ℕ) (p : Lift) (y : Style) (down r : ℕ) 
         (λ b l.
         let here : blanks + (j + b) ≡ blanks + j + b = omega arith in
         ev ∙ sym (row_none (blanks + j + b) (rw (← here) (fetched_right cols blanks (j + b) (omega arith))))) q
+
+  -- every number above 2 mixes as 3 does
+  pub row_last : (n mixing s from w : ℕ) → 3 ≤ mixing → (m : List ℕ)
+      → laid (row_stroke cols blanks p y down r n 3) s from w m ≡ laid (row_stroke cols blanks p y down r n mixing) s from w m
+  row_last n mixing s from w above m =
+      turned_same (byte_turn (row_stroke cols blanks p y down r n 3) s from) (byte_turn (row_stroke cols blanks p y down r n mixing) s from) w m
+      (λ j l h. ap (set l (from + s * j)) (flipped (row_byte cols blanks p y down r (j / n)) (get_or l (from + s * j) 0)))
+    where
+      flipped : (v b : ℕ) → mixed_by 3 v b ≡ mixed_by mixing v b
+      flipped v b = rw (ne_eqb mixing 0 (λ e. omega arith), ne_eqb mixing 1 (λ e. omega arith), ne_eqb mixing 2 (λ e. omega arith))

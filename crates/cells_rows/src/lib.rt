@@ -1,6 +1,7 @@
 // Rows of enlarged cells, written into memory: each column of a row is made once, and stored as often as it is repeated.
 // It may use the paper, the laws of what is laid into memory, and the columns of glyphs. It knows addresses, and how far apart the columns
-// of a row lie, but neither dots nor rectangles. The mixing is a const parameter, so that a loop over columns does not ask for it.
+// of a row lie, but neither dots nor rectangles. The mixing is a const parameter, so that a loop over columns does not ask for it; `row_by` asks
+// for it once, before the loop.
 #![tactic(auto)]
 
 ghost use Rattle.std.specs.Prelude.{◌≡◌, ◌+◌, ◌*◌, ◌≤◌, ◌<◌, length};
@@ -69,4 +70,19 @@ pub fn row<const MIXING: u8>(mem: &mut [u8], f: &Stencil, down: u8, r: u8, from:
         a += step;
     }
     edge::<MIXING>(mem, a, to, blank, lift.down as usize);
+}
+
+// The same row by a mixing that is known at run time alone: every number above 2 is exclusive or.
+pub fn row_by(mem: &mut [u8], f: &Stencil, down: u8, r: u8, from: usize, to: Repeat, mixing: u8)
+    requires blanks_bound { (f.now.blanks ≤ 1) × (length mem.old ≤ 65536) }
+    requires n_in_bounds { from + to.step * (whole_of f.now.cols.now f.now.blanks f.now.lift * to.times) < length mem.old + to.step }
+    ensures { mem.new ≡ laid (row_stroke f.now.cols.now f.now.blanks f.now.lift f.now.style down r to.times mixing) to.step from
+        (whole_of f.now.cols.now f.now.blanks f.now.lift * to.times) mem.old }
+{
+    match mixing {
+        0 => row::<0>(mem, f, down, r, from, to),
+        1 => row::<1>(mem, f, down, r, from, to),
+        2 => row::<2>(mem, f, down, r, from, to),
+        _ => row::<3>(mem, f, down, r, from, to),
+    }
 }

@@ -25,12 +25,9 @@ fn flat(mem: &mut [u8], f: &Stencil, a: usize, s: usize)
     let four = Repeat { step: s, times: 4 };
     match f.style.mixing {
         0 if n == 4 => cells_rows::row::<0>(mem, f, 1, 0, a, four),
-        0 => cells_rows::row::<0>(mem, f, 1, 0, a, asked),
-        1 => cells_rows::row::<1>(mem, f, 1, 0, a, asked),
-        2 => cells_rows::row::<2>(mem, f, 1, 0, a, asked),
-        _ if n == 2 => cells_rows::row::<3>(mem, f, 1, 0, a, twice),
-        _ if n == 4 => cells_rows::row::<3>(mem, f, 1, 0, a, four),
-        _ => cells_rows::row::<3>(mem, f, 1, 0, a, asked),
+        3.. if n == 2 => cells_rows::row::<3>(mem, f, 1, 0, a, twice),
+        3.. if n == 4 => cells_rows::row::<3>(mem, f, 1, 0, a, four),
+        mixing => cells_rows::row_by(mem, f, 1, 0, a, asked, mixing),
     }
 }
 
