@@ -1,11 +1,13 @@
 -- `carry::take` meets its contract: an arm for each reading. Assumes nothing.
-use mathlib.Core.Path.{refl}
+use mathlib.Core.Path.{◌≡◌, refl}
 use Rattle.paper.specs.declared.Half.TheVariants.{Nothing}
+use Rattle.paper.specs.declared.Outcome.TheVariants.{Cancelled}
 use Rattle.paper.specs.Downloads.{faces}
 use Rattle.paper.specs.Bounds.{half_ok}
-use Rattle.paper.specs.Settings.{view_of}
+use Rattle.paper.specs.Settings.{view_of, with_half}
 use Rattle.paper.specs.Carry.{take_of, take_store}
 use Rattle.laws_bytes.specs.Readings.{reading_ok}
+use Rattle.carry_state.specs.Says.{done}
 use Rattle.carry_dots.proofs.Wrote.{does_answer, does_quiet, ready_half}
 use Rattle.carry_command.specs.Heavy.{heavy}
 use Rattle.carry.proofs.Kept.{kept_half}
@@ -41,7 +43,8 @@ returns-in-GlyphEnd c font =
 pub returns-in-Cancels : goal.returns-in-Cancels
 unfolding take_of take_store
 returns-in-Cancels c font =
-    rw c.in-Cancels.is (does_answer (rw c.all_read-in-Cancels.ensures at c.ends-in-Cancels.ensures) refl, refl)
+    let read : c.ends-in-Cancels.result ≡ done (with_half c.args.s Nothing) Cancelled = cc in
+    rw c.in-Cancels.is (does_answer read refl, refl)
 
 pub returns-in_default : goal.returns-in_default
 unfolding take_of take_store

@@ -1,5 +1,5 @@
 -- `find` meets its contract. Assumes nothing.
-use borrow.Author.Tests.{lt-leb, le-leb}
+use borrow.Author.Tests.{le-leb}
 use mathlib.Core.Path.{◌≡◌, refl, sym, ap, ◌∙◌}
 use mathlib.Core.List.{List}
 use Prim.Native.Nat.{ℕ}
@@ -27,7 +27,7 @@ pub returns-then-is_ours : goal.returns-then-is_ours
 unfolding receive_call
 returns-then-is_ours c =
     let f = c.in-Some.ensures.found in
-    rw (le-leb _ _ c.if-address-gt15.false)
+    rw (le-leb c.args.address 15 (omega arith))
     (c.found-telegram.ensures
     ∙ sym (search_found _ _ _ f.1 (sym c.is_ours.ensures ∙ c.if-is_ours.true))
     ∙ at_first _ _ _ c.loop-place.invariant f.0)
@@ -49,5 +49,5 @@ loop-place-preserved c =
 pub returns : goal.returns
 unfolding receive_call
 returns c =
-    rw (le-leb _ _ c.if-address-gt15.false)
+    rw (le-leb c.args.address 15 (omega arith))
     (sym (search_end _ _ _ c.in_default.ensures.none) ∙ at_first _ _ _ c.loop-place.invariant refl)

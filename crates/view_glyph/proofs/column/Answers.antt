@@ -1,8 +1,8 @@
 -- `view_glyph::column` is safe and gives the font's byte of a picture's column.
-use Rattle.std.proofs.Common.{◌≡◌, ◌+◌, ◌<◌, refl, ap, ◌∙◌, arith}
-use Rattle.paper.specs.Panel.{byte_of}
+use Rattle.std.proofs.Common.{◌≡◌, ◌/◌, ◌^◌, refl, ap, ◌∙◌, arith}
+use Rattle.paper.specs.Panel.{byte_of, lit}
 use Rattle.view_glyph.specs.Glyph.{column_of}
-use Rattle.view_glyph.proofs.Rows.{dot, row, small, upto}
+use Rattle.view_glyph.proofs.Rows.{dot, row, room, upto}
 use Rattle.view_glyph.proofs.column.Goals as goal
 
 pub loop-i-init : goal.loop-i-init
@@ -11,13 +11,12 @@ loop-i-init c = refl
 
 pub overflow_add-byte : goal.overflow_add-byte
 overflow_add-byte c =
-    let d = dot c.args.dots.now c.args.k in
-    let next = row c.loop-i.i d c.loop-i-test.true in
-    let bound : upto (c.loop-i.i + 1) d < 256 = small _ in
+    let left = room c.loop-i.i (dot c.args.dots.now c.args.k) c.loop-i-test.true in
     omega arith
 
 pub loop-i-preserved : goal.loop-i-preserved
 loop-i-preserved c =
+    let here : c.worth_of-byte.result ≡ lit (128 / 2 ^ c.loop-i.i) (dot c.args.dots.now c.args.k c.loop-i.i) = grind arith in
     let next = row c.loop-i.i (dot c.args.dots.now c.args.k) c.loop-i-test.true in
     cc
 
