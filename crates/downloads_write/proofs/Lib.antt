@@ -1,2 +1,3 @@
--- Laws of the places, over which the functions' proofs stand.
+-- Laws of the places and of the loop that writes one, over which the functions' proofs stand.
+pub mod Turns
 pub mod Written

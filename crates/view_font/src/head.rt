@@ -3,10 +3,21 @@ ghost use Rattle.std.specs.Prelude.{◌<◌, IfSome};
 
 use crate::store::Place;
 
-// The first word of a line, if it has one: words are parted by blanks and tabs.
-pub fn first_word(line: &[u8]) -> Option<&[u8]> {
-    line.split(|b| matches!(b, b' ' | b'\t'))
-        .find(|word| !word.is_empty())
+// Words are parted by blanks and tabs.
+fn is_blank(b: u8) -> bool {
+    matches!(b, b' ' | b'\t')
+}
+
+// What a line says: what stands from its first word on, if it has one.
+pub fn said(line: &[u8]) -> Option<&[u8]> {
+    let start = line.iter().position(|b| !is_blank(*b))?;
+    Some(&line[start..])
+}
+
+// The word that a text begins with.
+pub fn first_word(said: &[u8]) -> &[u8] {
+    let end = said.iter().position(|b| is_blank(*b));
+    &said[..end.unwrap_or(said.len())]
 }
 
 // The value of a hexadecimal digit.

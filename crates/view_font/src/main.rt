@@ -54,13 +54,13 @@ struct Picture {
 
 // A line between pictures: the picture that it begins, if it says anything.
 fn take_head(line: &[u8], store: &Store) -> Result<Option<Picture>, Flaw> {
-    let Some(word) = head::first_word(line) else {
+    let Some(said) = head::said(line) else {
         return Ok(None);
     };
-    if word.starts_with(b";") {
+    if said.starts_with(b";") {
         return Ok(None);
     }
-    let place = head::place_of(word).ok_or(Flaw::BadCode)?;
+    let place = head::place_of(head::first_word(said)).ok_or(Flaw::BadCode)?;
     if store.has(place) {
         return Err(Flaw::Twice);
     }
@@ -96,20 +96,16 @@ fn take_row(line: &[u8], picture: Picture, store: &mut Store) -> Result<Option<P
     Ok(None)
 }
 
-// A line, without the line feed and the carriage return that end it.
-fn without_end(line: &[u8]) -> &[u8] {
-    let line = line.strip_suffix(b"\n").unwrap_or(line);
-    line.strip_suffix(b"\r").unwrap_or(line)
-}
-
 // Reads a text, line for line.
 fn read_all(text: &[u8]) -> Result<Store, BadLine> {
     let mut store = Store::new();
     let mut picture = None;
     let mut line: u64 = 0;
-    for bytes in text.split_inclusive(|b| *b == b'\n') {
+    // the last line feed ends a line and begins none
+    let lines = text.strip_suffix(b"\n").unwrap_or(text);
+    for bytes in lines.split(|b| *b == b'\n') {
         line = line.wrapping_add(1);
-        let bytes = without_end(bytes);
+        let bytes = bytes.strip_suffix(b"\r").unwrap_or(bytes);
         let taken = match picture {
             None => take_head(bytes, &store),
             Some(begun) => take_row(bytes, begun, &mut store),

@@ -8,6 +8,17 @@ use std::io::{Eprint, Print};
 use view_io::Stop;
 use view_picture::Framed;
 
+// Room for a glass in its frame: at most 3,430 bytes.
+const ROOM: usize = 4096;
+
+// Writes the glass in its frame.
+fn write_frame(rt: &impl Print, framed: Framed<'_>) -> io::Result<()> {
+    match view_text::text_of::<ROOM, _>(&framed) {
+        Some(text) => rt.write_all(text.as_str().as_bytes()),
+        None => rt.print(framed),
+    }
+}
+
 // Writes the glass as a word asks: drawn in a frame, with the note below it, or as a PBM file. Any other word is complained of.
 fn write_as(
     rt: &(impl Print + Eprint),
@@ -17,7 +28,7 @@ fn write_as(
 ) -> io::Result<()> {
     match word {
         b"draw" => {
-            rt.print(Framed(glass))?;
+            write_frame(rt, Framed(glass))?;
             rt.write_all(note)
         }
         b"pbm" => rt.write_all(&view_picture::pbm(glass)),

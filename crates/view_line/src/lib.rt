@@ -4,7 +4,8 @@
 #![tactic(auto)]
 
 use paper::{Outcome, State};
-use std::fmt;
+use std::io::Print;
+use std::{fmt, io};
 use view_kinds::Kind;
 use view_text::Column;
 
@@ -138,5 +139,16 @@ impl fmt::Display for TelegramLine<'_> {
         let to = Column(To(self.to), 19);
         let done = if self.ours { "fed" } else { "passed" };
         write!(f, "{head}{to}{done}")
+    }
+}
+
+// Room for the longest line: a command's has 112 characters.
+const ROOM: usize = 160;
+
+// Writes a line.
+pub fn write<L: fmt::Display + Drop>(rt: &impl Print, line: L) -> io::Result<()> {
+    match view_text::text_of::<ROOM, _>(&format_args!("{line}\n")) {
+        Some(text) => rt.write_all(text.as_str().as_bytes()),
+        None => rt.println(line),
     }
 }

@@ -24,7 +24,7 @@ fn write_stretch(rt: &impl Print, place: usize, bytes: &[u8]) -> io::Result<()> 
     if bytes.is_empty() {
         return Ok(());
     }
-    rt.println(StretchLine { place, bytes })
+    view_line::write(rt, StretchLine { place, bytes })
 }
 
 // Where the bytes that are fed of a telegram end: behind its data, or before them if it is another's.
@@ -47,12 +47,13 @@ fn telegram_at(rt: &impl Print, link: &[u8], place: usize, address: usize) -> io
     let to = link[place + 1];
     let ours = telegrams::is_ours(to, address);
     let bytes = &link[place..t.after];
-    rt.println(TelegramLine {
+    let line = TelegramLine {
         place,
         bytes,
         to,
         ours,
-    })?;
+    };
+    view_line::write(rt, line)?;
     Ok(Part {
         first: t.first,
         end: fed_end(t, ours),

@@ -53,12 +53,13 @@ impl Traced<'_> {
 
     // Writes the command's line.
     fn tell(&self, rt: &impl Print, outcome: Outcome) -> io::Result<()> {
-        rt.println(CommandLine {
+        let line = CommandLine {
             place: self.place,
             command: self.command.as_slice(),
             outcome,
             state: self.state,
-        })
+        };
+        view_line::write(rt, line)
     }
 
     // Feeds the byte at a place of the input, and writes the line of the command that it finishes.
