@@ -6,18 +6,6 @@ use std::env::Env;
 use std::io;
 use std::io::{Eprint, Print};
 use view_io::Stop;
-use view_picture::Framed;
-
-// Room for a glass in its frame: at most 3,430 bytes.
-const ROOM: usize = 4096;
-
-// Writes the glass in its frame.
-fn write_frame(rt: &impl Print, framed: Framed<'_>) -> io::Result<()> {
-    match view_text::text_of::<ROOM, _>(&framed) {
-        Some(text) => rt.write_all(text.as_str().as_bytes()),
-        None => rt.print(framed),
-    }
-}
 
 // Writes the glass as a word asks: drawn in a frame, with the note below it, or as a PBM file. Any other word is complained of.
 fn write_as(
@@ -28,7 +16,9 @@ fn write_as(
 ) -> io::Result<()> {
     match word {
         b"draw" => {
-            write_frame(rt, Framed(glass))?;
+            let mut frame = [0u8; 4096];
+            let n = view_picture::draw(&mut frame, glass);
+            rt.write_all(frame.get(..n).unwrap_or(&frame))?;
             rt.write_all(note)
         }
         b"pbm" => rt.write_all(&view_picture::pbm(glass)),

@@ -3,11 +3,31 @@
 // It uses the paper, values in columns, the kinds, the numbers, and state_views for the cursor.
 #![tactic(auto)]
 
+ghost use Rattle.std.specs.Prelude.{◌≤◌, length};
+
 use paper::{Outcome, State};
 use std::io::Print;
-use std::{fmt, io};
+use std::{fmt, io, str};
 use view_kinds::Kind;
 use view_text::Column;
+
+const DIGITS: &[u8; 16] = b"0123456789ABCDEF";
+
+// Writes at most 14 bytes, each after a blank and as two digits. They are put together here: one that is formatted by itself costs ten times
+// as much, and a line has many.
+fn write_hex<W: fmt::Write>(f: &mut fmt::Formatter<W>, bytes: &[u8]) -> fmt::Result
+    requires { length bytes.now ≤ 14 }
+{
+    let mut text = [b' '; 42];
+    for k in 0..bytes.len() {
+        text[3 * k + 1] = DIGITS[usize::from(bytes[k] / 16)];
+        text[3 * k + 2] = DIGITS[usize::from(bytes[k] % 16)];
+    }
+    match str::from_utf8(&text[..3 * bytes.len()]) {
+        Ok(text) => f.write_str(text),
+        Err(_) => Err(fmt::Error),
+    }
+}
 
 // Bytes, each after a blank. Of more than 14, as an image, a download or a telegram has them, the first nine, and how many there are.
 #[derive(Clone, Copy)]
@@ -16,14 +36,11 @@ struct Bytes<'a>(&'a [u8]);
 impl fmt::Display for Bytes<'_> {
     fn fmt<W: fmt::Write>(&self, f: &mut fmt::Formatter<W>) -> fmt::Result {
         let n = self.0.len();
-        let shown = if n <= 14 { self.0 } else { &self.0[..9] };
-        for b in shown {
-            write!(f, " {b:02X}")?;
+        if n <= 14 {
+            return write_hex(f, self.0);
         }
-        if n > 14 {
-            write!(f, " .. {n} bytes")?;
-        }
-        Ok(())
+        write_hex(f, &self.0[..9])?;
+        write!(f, " .. {n} bytes")
     }
 }
 
@@ -36,7 +53,8 @@ struct Head<'a> {
 
 impl fmt::Display for Head<'_> {
     fn fmt<W: fmt::Write>(&self, f: &mut fmt::Formatter<W>) -> fmt::Result {
-        write!(f, "{:<7}{}", self.place, Column(Bytes(self.bytes), 44))
+        let place = Column(self.place, 7);
+        write!(f, "{place}{}", Column(Bytes(self.bytes), 44))
     }
 }
 
