@@ -79,6 +79,13 @@ module _ (k : ℕ) (bytes : List ℕ) where
             ∙ get_or-each (after r) ds a b
             ∙ ap (λ (t : Bool). cond t (get_or bytes (a % place_length) 0) (get_or ds a 0)) (done_elsewhere r a ne))
 
+    -- past the list's end there is nothing to write
+    pub partly_past : (m : List ℕ) (r : ℕ) → m ≡ partly r ds → length ds ≤ place_length * k + r → m ≡ partly (r + 1) ds
+    partly_past m r e h =
+        e
+        ∙ each_same (after r) (after (r + 1)) ds
+        (λ a l. ap (λ (t : Bool). cond t (get_or bytes (a % place_length) 0) (get_or ds a 0)) (done_elsewhere r a (λ q. omega arith)))
+
     -- it has come to the place's end, or to the list's
     pub partly_ends : (m : List ℕ) (r : ℕ) → m ≡ partly r ds → min place_length (length ds - place_length * k) ≤ r
         → m ≡ with_place ds k bytes

@@ -16,16 +16,19 @@ fn place_for(ds: &[u8], code: u8) -> Option<usize>
 }
 
 // Writes a place. None is the end, where the paper's `with_place` writes as many bytes as there are, most often none.
+// It stays out of the function that reads each byte: within it an image's byte took 3.4 ns and not 2.9.
+#[inline(never)]
 fn write_place(ds: &mut [u8], place: Option<usize>, bytes: [u8; 9])
     requires { unwrap_or place (places_in ds.old) ≤ places_in ds.old }
     ensures { ds.new ≡ with_place ds.old (unwrap_or place (places_in ds.old)) bytes }
 {
     let k = place.unwrap_or(ds.len() / 9);
     let from = 9 * k;
-    let count = (ds.len() - from).min(9);
-    // byte by byte: to copy a slice of any length is a call of memcpy, and the archive for C asks for no name from outside
-    for r in 0..count {
-        ds[from + r] = bytes[r];
+    // byte by byte, each asked for: to copy any number of them is a call of memcpy, and the archive for C asks for no name from outside
+    for r in 0..9usize {
+        if from + r < ds.len() {
+            ds[from + r] = bytes[r];
+        }
     }
 }
 

@@ -7,8 +7,8 @@ use Rattle.downloads_write.proofs.write_place.Given as goal
 
 abbrev pub invariant-loop-r : goal.invariant-loop-r
 invariant-loop-r l =
-    (l.r ≤ l.count) × (length l.ds ≡ length l.initial.ds) × (l.ds ≡ partly l.k l.bytes l.r l.initial.ds)
+    (l.r ≤ 9) × (length l.ds ≡ length l.initial.ds) × (l.ds ≡ partly l.k l.bytes l.r l.initial.ds)
 
 abbrev pub decreases-loop-r : goal.decreases-loop-r
 decreases-loop-r l =
-    l.count - l.r
+    9 - l.r
